@@ -1,0 +1,4 @@
+pub mod First
+pub mod Frames
+pub mod Profiles
+pub mod Tables

@@ -1,0 +1,10 @@
+//! The frame types of AMR and AMR-WB, frames, and the formats of payloads.
+#![tactic(auto)]
+
+mod codec;
+mod profile;
+mod table;
+
+pub use codec::{Codec, Kind};
+pub use profile::{Profile, ProfileFault};
+pub use table::{bits_of, class_a_of, kind_of, octets_of, rate, step};

@@ -1,0 +1,3 @@
+pub mod Log
+pub mod Rtp
+pub mod RtpReading

@@ -1,0 +1,6 @@
+pub mod FrameCrc
+pub mod Grammar
+pub mod Reading
+pub mod RobustOrder
+pub mod Seen
+pub mod Values

@@ -1,0 +1,2 @@
+pub mod FirstStage
+pub mod Recording

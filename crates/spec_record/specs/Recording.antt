@@ -1,0 +1,51 @@
+-- What recording a packet log writes, and how it ends, for a whole input and a limit of octets.
+use Rattle.std.specs.Prelude.{ℕ, nat_lt, List, [], ◌∷◌, length, take, Option, None, Some}
+use Rattle.amr_frame.specs.First.{when, first}
+use Rattle.amr_frame.specs.declared.profile.Profile.{Profile}
+use Rattle.spec_packet.specs.Log.{cut}
+use Rattle.spec_record.specs.FirstStage.{built, is_cut_short}
+use Rattle.spec_session.specs.Packets.{packets_of}
+use Rattle.spec_session.specs.Release.{released}
+use Rattle.spec_session.specs.Session.{Rules}
+use Rattle.spec_store.specs.StorageFile.{storage_file}
+
+-- what is recorded: the format, the payload type or any, and the session's rules
+pub record Recording : Type 0 where
+  pub profile : Profile
+  pub asked : Option ℕ
+  pub rules : Rules
+
+-- the storage file of records: what is released of the well-formed packets among them
+abbrev pub file_of : Recording → List (List ℕ) → List ℕ
+file_of r records =
+    storage_file r.rules.codec r.rules.channels (released r.rules (packets_of r.profile r.asked records))
+
+-- the records of an input, and what is left behind them: of its first `limit` octets
+abbrev pub records_of : ℕ → List ℕ → List (List ℕ)
+records_of limit input = (cut (take limit input)).packets
+
+abbrev pub rest_of : ℕ → List ℕ → List ℕ
+rest_of limit input = (cut (take limit input)).rest
+
+-- what is written for an input
+abbrev pub output_of : Recording → ℕ → List ℕ → List ℕ
+output_of r limit input = file_of r (built r.profile r.asked r.rules (records_of limit input))
+
+-- how a recording ends without a fault
+pub data End : Type 0 where
+  NotBuilt : End
+  LimitReached : End
+  LogCut : (have : ℕ) → End
+  Done : End
+
+abbrev or_done : Option End → End
+or_done None = Done
+or_done (Some end) = end
+
+-- the first that holds: a record isn't built yet, the input is longer than the limit, the log is cut inside a
+-- record, or all was read
+abbrev pub end_of : Recording → ℕ → List ℕ → End
+end_of r limit input = or_done (first (
+    when (is_cut_short r.profile r.asked r.rules (records_of limit input)) NotBuilt
+    ∷ when (nat_lt limit (length input)) LimitReached
+    ∷ when (nat_lt 0 (length (rest_of limit input))) (LogCut (length (rest_of limit input))) ∷ []))

@@ -1,0 +1,2 @@
+pub mod StorageFile
+pub mod StorageReading
