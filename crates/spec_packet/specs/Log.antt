@@ -31,7 +31,7 @@ pub record Cut : Type 0 where
   pub packets : List (List ℕ)
   pub rest : List ℕ
 
-abbrev is_whole : List ℕ → Bool
+abbrev pub is_whole : List ℕ → Bool
 is_whole [] = false
 is_whole (a ∷ []) = false
 is_whole (a ∷ b ∷ rest) = nat_eq (length rest) (256 * a + b)

@@ -57,10 +57,10 @@ pub data Verdict : Type 0 where
 abbrev pub begun : Packet → Accepted
 begun x = record { packet = x; place = pos 0; before = None }
 
-abbrev within_reach : Rules → ℤ → Accepted → Verdict
+abbrev pub within_reach : Rules → ℤ → Accepted → Verdict
 within_reach rules h a = cond (int_le (last_place rules a) (h +ℤ pos rules.reach)) (Accept a) (FarAhead h (last_place rules a))
 
-abbrev at_place : Rules → ℤ → Packet → ℤ → Option ℤ → Verdict
+abbrev pub at_place : Rules → ℤ → Packet → ℤ → Option ℤ → Verdict
 at_place rules h x delta None = OffGrid delta
 at_place rules h x delta (Some u) = within_reach rules h (record { packet = x; place = u; before = Some h })
 

@@ -1,0 +1,31 @@
+ghost use Rattle.spec_packet.specs.Log.{cut};
+ghost use Rattle.spec_record.specs.Recording.{Done, LimitReached, LogCut, NotBuilt, end_of, output_of};
+ghost use Rattle.std.specs.Prelude.{◌++◌, ◌∷◌, ◌≡◌, ◌^◌, []};
+ghost use Rattle.worked_rows.specs.Words.{counts, magic, packed, rec, recording, seven, zeros};
+
+/// The records of a log (RFC 4571, 2), and what is left behind them.
+pub fn records_of_logs()
+    ensures null { (cut (zeros 4)).packets ≡ [] ∷ [] ∷ [] }
+    ensures rest { (cut (zeros 5)).rest ≡ 0 ∷ [] }
+    ensures two { (cut (0 ∷ 1 ∷ 7 ∷ 0 ∷ 2 ∷ 8 ∷ 9 ∷ 0 ∷ 3 ∷ 5 ∷ [])).packets ≡ (7 ∷ []) ∷ (8 ∷ 9 ∷ []) ∷ [] }
+    ensures inside { (cut (0 ∷ 1 ∷ 7 ∷ 0 ∷ 2 ∷ 8 ∷ 9 ∷ 0 ∷ 3 ∷ 5 ∷ [])).rest ≡ 0 ∷ 3 ∷ 5 ∷ [] }
+{}
+
+/// The counts of a session: late blocks, copies of one frame, and blocks released.
+pub fn counts_of_sessions()
+    ensures reordered { counts packed 1 (rec 2 320 (0xF1 ∷ 0x40 ∷ zeros 14) ++ rec 0 0 seven ++ rec 1 160 (0xF2 ∷ 0x40 ∷ zeros 18)) ≡ record { late = 2; copies = 0; blocks = 1 } }
+    ensures repeated { counts packed 256 (rec 0 0 (0xF3 ∷ 0x80 ∷ zeros 30) ++ rec 0 0 (0xF4 ∷ 0x40 ∷ zeros 5) ++ rec 0 0 (0xF1 ∷ 0x40 ∷ zeros 14)) ≡ record { late = 0; copies = 2; blocks = 1 } }
+    ensures gap { counts packed 256 (rec 0 0 seven ++ rec 0 480 seven) ≡ record { late = 0; copies = 0; blocks = 4 } }
+{}
+
+/// How a recording ends, and what it has written then.
+pub fn recordings_end()
+    ensures whole { end_of (recording packed 1) (2 ^ 40) (rec 0 0 seven) ≡ Done }
+    ensures at_limit { end_of (recording packed 1) 14 (zeros 14) ≡ Done }
+    ensures past_limit { end_of (recording packed 1) 14 (zeros 15) ≡ LimitReached }
+    ensures cut_short { end_of (recording packed 1) (2 ^ 40) (zeros 15) ≡ LogCut 1 }
+    ensures repeated { end_of (recording packed 1) (2 ^ 40) (rec 0 0 seven ++ rec 0 0 seven) ≡ NotBuilt }
+    ensures repeated_output { output_of (recording packed 1) (2 ^ 40) (rec 0 0 seven ++ rec 0 0 seven) ≡ magic ++ 0x3C ∷ zeros 31 }
+    ensures extended { end_of (recording packed 1) (2 ^ 40) (0x00 ∷ 0x2C ∷ 0x90 ∷ 0x60 ∷ zeros 10 ++ seven) ≡ NotBuilt }
+    ensures extended_output { output_of (recording packed 1) (2 ^ 40) (0x00 ∷ 0x2C ∷ 0x90 ∷ 0x60 ∷ zeros 10 ++ seven) ≡ magic }
+{}
