@@ -76,17 +76,13 @@ front_kept rules cs ds a b b' t bt bb h =
     take-map-range_with_len f 0 (places_between a b') (places_between a b) (places_grow a b b' bb)
     ∙ map_same f g 0 (places_between a b) (λ k l. block_kept rules cs ds (a +ℤ pos k) t (let i = in_span (b -ℤ a) k (omega arith) in omega (arith, ints)) h)
 
--- the part up to t
-pub kept_front : (rules : Rules) (cs ds : List Copy) (t : ℤ) → Past t ds → take (length (released_to rules cs t)) (released_of rules (cs ++ ds)) ≡ released_to rules cs t
-kept_front rules [] ds t h = refl
-kept_front rules (c ∷ cs) ds t h =
+-- the part up to t is the front of the blocks up to any place that isn't before its last
+kept_front : (rules : Rules) (c : Copy) (cs ds : List Copy) (t b' : ℤ) → int_min t (greatest c.place cs) ≤ℤ b' → Past t ds → take (length (released_to rules (c ∷ cs) t)) (blocks_between rules (c ∷ cs ++ ds) (least c.place (cs ++ ds)) b') ≡ released_to rules (c ∷ cs) t
+kept_front rules c cs ds t b' bb h =
     let a = least c.place cs in
     let b = int_min t (greatest c.place cs) in
-    let b' = greatest c.place (cs ++ ds) in
     let n : length (blocks_between rules (c ∷ cs) a b) ≡ places_between a b = length-map-range_with_len (λ (k : ℕ). block_at rules (c ∷ cs) (a +ℤ pos k)) 0 (places_between a b) in
     let le : least c.place (cs ++ ds) ≡ least a ds = fold-append (λ (z : ℤ) (x : Copy). int_min z x.place) c.place cs ds in
-    let ge : b' ≡ greatest (greatest c.place cs) ds = fold-append (λ (z : ℤ) (x : Copy). int_max z x.place) c.place cs ds in
-    let gg = greatest_grows (greatest c.place cs) ds in
     by_lt_z t a
     (λ l.
     let none : places_between a b ≡ 0 = no_span (b -ℤ a) (omega (arith, ints, clamps)) in
@@ -94,14 +90,33 @@ kept_front rules (c ∷ cs) ds t h =
     rw nil refl)
     (λ l.
     let same : least c.place (cs ++ ds) ≡ a = le ∙ least_kept a t ds l h in
-    let upper : greatest c.place cs ≤ℤ b' = subst (λ z. greatest c.place cs ≤ℤ z) (sym ge) gg in
     ap (λ k. take k (blocks_between rules (c ∷ cs ++ ds) (least c.place (cs ++ ds)) b')) n
     ∙ ap (λ z. take (places_between a b) (blocks_between rules (c ∷ cs ++ ds) z b')) same
-    ∙ front_kept rules (c ∷ cs) ds a b b' t (omega (arith, ints, clamps)) (omega (arith, ints, clamps)) h)
+    ∙ front_kept rules (c ∷ cs) ds a b b' t (omega (arith, ints, clamps)) bb h)
 
--- the same as a front and a rest
+-- the greatest place of more copies isn't less
+more_greatest : (z : ℤ) (cs ds : List Copy) → greatest z cs ≤ℤ greatest z (cs ++ ds)
+more_greatest z cs ds =
+    subst (λ y. greatest z cs ≤ℤ y) (sym (fold-append (λ (y : ℤ) (x : Copy). int_max y x.place) z cs ds)) (greatest_grows (greatest z cs) ds)
+
+-- a list is its front and a rest
+front_and_rest : {X : Type 0} (front all : List X) → take (length front) all ≡ front → (rest : List X) × (all ≡ front ++ rest)
+front_and_rest front all e =
+    let n = length front in
+    (drop n all, sym (take-append-drop n all) ∙ ap (λ xs. xs ++ drop n all) e)
+
+-- what is released of more copies, all past t, begins with what is released up to t
 pub stays_front : (rules : Rules) (cs ds : List Copy) (t : ℤ) → Past t ds → (rest : List (List Frame)) × (released_of rules (cs ++ ds) ≡ released_to rules cs t ++ rest)
-stays_front rules cs ds t h =
-    let n = length (released_to rules cs t) in
-    let all = released_of rules (cs ++ ds) in
-    (drop n all, sym (take-append-drop n all) ∙ ap (λ front. front ++ drop n all) (kept_front rules cs ds t h))
+stays_front rules [] ds t h = (released_of rules ds, refl)
+stays_front rules (c ∷ cs) ds t h =
+    let b' = greatest c.place (cs ++ ds) in
+    let upper = more_greatest c.place cs ds in
+    front_and_rest (released_to rules (c ∷ cs) t) (released_of rules (c ∷ cs ++ ds)) (kept_front rules c cs ds t b' (omega (arith, ints, clamps)) h)
+
+-- and so does what is released of them up to a place that isn't before t
+pub stays_front_to : (rules : Rules) (cs ds : List Copy) (t t' : ℤ) → t ≤ℤ t' → Past t ds → (rest : List (List Frame)) × (released_to rules (cs ++ ds) t' ≡ released_to rules cs t ++ rest)
+stays_front_to rules [] ds t t' le h = (released_to rules ds t', refl)
+stays_front_to rules (c ∷ cs) ds t t' le h =
+    let b' = int_min t' (greatest c.place (cs ++ ds)) in
+    let upper = more_greatest c.place cs ds in
+    front_and_rest (released_to rules (c ∷ cs) t) (released_to rules (c ∷ cs ++ ds) t') (kept_front rules c cs ds t b' (omega (arith, ints, clamps)) h)

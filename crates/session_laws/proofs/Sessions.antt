@@ -10,11 +10,11 @@ use Rattle.std.proofs.lemmas.List.Sums.{fold-append}
 use Rattle.amr_frame.specs.Frames.{Frame}
 use Rattle.amr_frame.specs.Tables.{ticks}
 use Rattle.session_laws.specs.Later.{Later}
-use Rattle.session_laws.proofs.Prefix.{Past, stays_front}
+use Rattle.session_laws.proofs.Prefix.{Past, stays_front, stays_front_to}
 use Rattle.spec_session.specs.Copies.{Copy, copies_in, copies_of, copy_at, copies, is_after}
 use Rattle.spec_session.specs.Packets.{Packet}
 use Rattle.spec_session.specs.Places.{apart, place_near}
-use Rattle.spec_session.specs.Release.{released_of, released, released_up_to}
+use Rattle.spec_session.specs.Release.{released_of, released, released_to, released_up_to}
 use Rattle.spec_session.specs.Session.{Rules, Accepted, Verdict, Accept, OtherSource, FarAhead, accepted, at_place, greatest_last, horizon, horizon_of, last_place, later, taken, with_packet, within_reach}
 
 -- each packet that a verdict takes was judged at the horizon h
@@ -111,3 +111,22 @@ released_stays rules h more z e =
     let both : copies rules (h ++ more) ≡ copies rules h ++ ds = ap (copies_of rules) on.1 ∙ flat_map-append (copies_in rules) (accepted rules h) on.0 in
     let front = stays_front rules (copies rules h) ds (z -ℤ pos rules.window) (past_copies rules z on.0 on.2) in
     (front.0, ap (released_of rules) both ∙ front.1)
+
+-- the horizon of more accepted packets isn't less
+horizon_grows : (rules : Rules) (before later : List Accepted) (z z' : ℤ) → horizon_of rules before ≡ Some z → horizon_of rules (before ++ later) ≡ Some z' → z ≤ℤ z'
+horizon_grows rules [] later z z' e f = absurd cc
+horizon_grows rules (a ∷ rest) later z z' e f =
+    let here : greatest_last rules a rest ≡ z = cc in
+    let there : greatest_last rules a (rest ++ later) ≡ z' = cc in
+    let le = greatest_grows rules a rest later in
+    omega (arith, ints)
+
+-- and so is what is released of that list up to its own horizon less the window
+pub released_grows : (rules : Rules) (h more : List Packet) (z z' : ℤ) → horizon rules h ≡ Some z → horizon rules (h ++ more) ≡ Some z' → (rest : List (List Frame)) × (released_up_to rules (h ++ more) (z' -ℤ pos rules.window) ≡ released_up_to rules h (z -ℤ pos rules.window) ++ rest)
+released_grows rules h more z z' e f =
+    let on = goes_on_from rules h more z e in
+    let ds = copies_of rules on.0 in
+    let both : copies rules (h ++ more) ≡ copies rules h ++ ds = ap (copies_of rules) on.1 ∙ flat_map-append (copies_in rules) (accepted rules h) on.0 in
+    let le = horizon_grows rules (accepted rules h) on.0 z z' e (ap (horizon_of rules) (sym on.1) ∙ f) in
+    let front = stays_front_to rules (copies rules h) ds (z -ℤ pos rules.window) (z' -ℤ pos rules.window) (omega (arith, ints)) (past_copies rules z on.0 on.2) in
+    (front.0, ap (λ cs. released_to rules cs (z' -ℤ pos rules.window)) both ∙ front.1)
