@@ -1,3 +1,4 @@
+pub mod Cells
 pub mod First
 pub mod Frames
 pub mod Profiles
