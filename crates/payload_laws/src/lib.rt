@@ -1,0 +1,8 @@
+//! Laws of the definitions of payloads: each is the contract of a function that does nothing.
+#![tactic(auto)]
+
+mod crc;
+mod quality;
+
+pub use crc::has_one_crc;
+pub use quality::orders_by_quality;
