@@ -1,2 +1,5 @@
 pub mod Division
+pub mod Formats
+pub mod Marks
+pub mod OneValue
 pub mod Ranks

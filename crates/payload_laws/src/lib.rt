@@ -2,7 +2,9 @@
 #![tactic(auto)]
 
 mod crc;
+mod packed;
 mod quality;
 
 pub use crc::has_one_crc;
+pub use packed::has_one_value;
 pub use quality::orders_by_quality;
