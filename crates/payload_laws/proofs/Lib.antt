@@ -1,5 +1,10 @@
+pub mod Accepted
 pub mod Division
+pub mod EachFormat
+pub mod Entries
 pub mod Formats
+pub mod InGrammar
 pub mod Marks
 pub mod OneValue
+pub mod Ranges
 pub mod Ranks

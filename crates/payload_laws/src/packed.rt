@@ -1,7 +1,8 @@
-ghost use Rattle.std.specs.Prelude.{◌≡◌, List, false, ℕ};
+ghost use Rattle.std.specs.Prelude.{◌≡◌, List, None, [], false, ℕ};
 ghost use Rattle.amr_frame.specs.Profiles.{IsValid};
 ghost use Rattle.amr_frame.specs.declared.profile.Profile.{Profile};
 ghost use Rattle.spec_payload.specs.Grammar.{IsPayload};
+ghost use Rattle.spec_payload.specs.Reading.{payload_refusal, value_at};
 ghost use Rattle.spec_payload.specs.Values.{Value};
 
 /// The grammar of bandwidth-efficient payloads is unambiguous: octets have at most one value, and at
@@ -9,4 +10,11 @@ ghost use Rattle.spec_payload.specs.Values.{Value};
 pub fn has_one_value()
     ensures value { (p : Profile) (v w : Value) (checks others octets : List ℕ) → IsValid p → p.octet_aligned ≡ false → IsPayload p v checks octets → IsPayload p w others octets → v ≡ w }
     ensures checks { (p : Profile) (v w : Value) (checks others octets : List ℕ) → IsValid p → p.octet_aligned ≡ false → IsPayload p v checks octets → IsPayload p w others octets → checks ≡ others }
+{}
+
+/// The reading by places and the grammar of bandwidth-efficient payloads agree, in both directions.
+pub fn reads_its_grammar()
+    ensures accepted { (p : Profile) (v : Value) (checks octets : List ℕ) → IsValid p → p.octet_aligned ≡ false → IsPayload p v checks octets → payload_refusal p octets ≡ None }
+    ensures value { (p : Profile) (v : Value) (checks octets : List ℕ) → IsValid p → p.octet_aligned ≡ false → IsPayload p v checks octets → value_at p octets ≡ v }
+    ensures only { (p : Profile) (octets : List ℕ) → IsValid p → p.octet_aligned ≡ false → payload_refusal p octets ≡ None → IsPayload p (value_at p octets) [] octets }
 {}
