@@ -8,3 +8,4 @@ pub mod Marks
 pub mod OneValue
 pub mod Ranges
 pub mod Ranks
+pub mod Seeing

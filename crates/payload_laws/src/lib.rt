@@ -6,5 +6,5 @@ mod packed;
 mod quality;
 
 pub use crc::has_one_crc;
-pub use packed::{has_one_value, reads_its_grammar};
+pub use packed::{has_one_value, reads_exactly_its_grammar, reads_its_grammar};
 pub use quality::orders_by_quality;
