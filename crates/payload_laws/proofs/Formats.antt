@@ -49,6 +49,14 @@ pub record IsPlain (p : Profile) : Type 0 where
   pub interleaving : p.interleaving ≡ None
   pub channels : 1 ≤ p.channels
 
+-- a valid format has a channel
+pub channels_of : (p : Profile) → IsValid p → 1 ≤ p.channels
+channels_of p valid =
+    let few = eqb p.channels 0 || ltb 6 p.channels in
+    let f = first_none (when few fault.Channels) _ valid in
+    let none = or_false (eqb p.channels 0) (ltb 6 p.channels) (when_none few fault.Channels f.0) in
+    above_zero p.channels (eqb-false p.channels 0 none.0)
+
 -- each of these follows from validity
 pub plain_of : (p : Profile) → IsValid p → p.octet_aligned ≡ false → IsPlain p
 plain_of p valid packed =
@@ -56,14 +64,13 @@ plain_of p valid packed =
     let needs = (p.crc || p.sorting || is_some p.interleaving) && not p.octet_aligned in
     let f1 = first_none (when few fault.Channels) _ valid in
     let f2 = first_none (when needs fault.NeedsAlignment) _ f1.1 in
-    let none = or_false (eqb p.channels 0) (ltb 6 p.channels) (when_none few fault.Channels f1.0) in
     let parts = no_needs p.crc p.sorting (is_some p.interleaving) p.octet_aligned packed (when_none needs fault.NeedsAlignment f2.0) in
     record {
       packed = packed;
       crc = parts.0;
       sorting = parts.1;
       interleaving = is_none_of p.interleaving parts.2;
-      channels = above_zero p.channels (eqb-false p.channels 0 none.0);
+      channels = channels_of p valid;
     }
 
 -- a bandwidth-efficient format by what it leaves open

@@ -2,9 +2,11 @@
 #![tactic(auto)]
 
 mod crc;
+mod grammar;
 mod packed;
 mod quality;
 
 pub use crc::has_one_crc;
-pub use packed::{has_one_value, reads_exactly_its_grammar, reads_its_grammar};
+pub use grammar::has_one_value;
+pub use packed::{reads_exactly_its_grammar, reads_its_grammar};
 pub use quality::orders_by_quality;

@@ -5,13 +5,6 @@ ghost use Rattle.spec_payload.specs.Grammar.{IsPayload};
 ghost use Rattle.spec_payload.specs.Reading.{payload_refusal, read_as, value_at};
 ghost use Rattle.spec_payload.specs.Values.{Value};
 
-/// The grammar of bandwidth-efficient payloads is unambiguous: octets have at most one value, and at
-/// most one list of CRCs.
-pub fn has_one_value()
-    ensures value { (p : Profile) (v w : Value) (checks others octets : List ℕ) → IsValid p → p.octet_aligned ≡ false → IsPayload p v checks octets → IsPayload p w others octets → v ≡ w }
-    ensures checks { (p : Profile) (v w : Value) (checks others octets : List ℕ) → IsValid p → p.octet_aligned ≡ false → IsPayload p v checks octets → IsPayload p w others octets → checks ≡ others }
-{}
-
 /// The reading by places and the grammar of bandwidth-efficient payloads agree, in both directions.
 pub fn reads_its_grammar()
     ensures accepted { (p : Profile) (v : Value) (checks octets : List ℕ) → IsValid p → p.octet_aligned ≡ false → IsPayload p v checks octets → payload_refusal p octets ≡ None }
