@@ -1,32 +1,31 @@
 -- What isn't refused as a bandwidth-efficient payload is in the grammar.
-use Rattle.std.proofs.Common.{◌≡◌, ℕ, zero, suc, ◌+◌, ◌-◌, ◌*◌, ◌/◌, ◌%◌, ◌^◌, ◌<◌, ◌≤◌, Bool, true, false, cond, not, ◌||◌, eqb, ltb, List, [], ◌∷◌, ◌++◌, length, map, take, drop, get_or, sym, refl, ap, ◌∙◌, subst, arith, Option, Some, None, append_assoc, inl, inr, sum}
-use Rattle.std.specs.Prelude.{is_some, find}
+use Rattle.std.proofs.Common.{◌≡◌, ℕ, zero, suc, ◌+◌, ◌-◌, ◌*◌, ◌/◌, ◌%◌, ◌<◌, ◌≤◌, Bool, true, false, not, ◌||◌, eqb, ltb, List, [], ◌∷◌, ◌++◌, length, map, take, drop, get_or, sym, refl, ap, ◌∙◌, arith, Option, Some, None, append_assoc, inl, inr, sum}
+use Rattle.std.specs.Prelude.{is_some}
 use Rattle.std.specs.Option.{unwrap_or}
-use Rattle.std.specs.List.{fold, flat_map, AllByRecursion, range_with_len}
-use Rattle.std.proofs.lemmas.List.{length-append, length-map, map-append, length-take, length-drop, take-append-drop, drop-drop}
-use Rattle.std.proofs.lemmas.List.Sums.{sum_by-cons, fold-append}
+use Rattle.std.specs.List.{AllByRecursion, range_with_len}
+use Rattle.std.proofs.lemmas.List.{length-map, map-append, length-drop, take-append-drop}
+use Rattle.std.proofs.lemmas.List.Sums.{fold-append}
 use Rattle.std.proofs.lemmas.List.{take_more, append-nil}
 use Rattle.std.proofs.lemmas.Bool.Decides.{eqb_tells}
 use Rattle.amr_frame.specs.declared.codec.Codec.{Codec}
 use Rattle.amr_frame.specs.declared.profile.Profile.{Profile}
-use Rattle.amr_bits.specs.Bits.{nat, number, bits_of, bit_at, bits_at, number_at, octets_for}
+use Rattle.amr_bits.specs.Bits.{nat, bits_of, bit_at, bits_at, octets_for}
 use Rattle.amr_bits.specs.Layout.{Mark, fixed, free, padded, fits}
 use Rattle.amr_frame.specs.First.{when, first}
-use Rattle.amr_frame.specs.Frames.{Frame, IsFrame, no_data}
+use Rattle.amr_frame.specs.Frames.{Frame, IsFrame}
 use Rattle.amr_frame.specs.Tables.{bits_in, is_reserved}
 use Rattle.spec_payload.specs.declared.refusal.PayloadRefusal.{PayloadRefusal}
 use Rattle.spec_payload.specs.declared.refusal.PayloadRefusal.TheVariants as why
 use Rattle.spec_payload.specs.Grammar.{IsPayload}
 use Rattle.spec_payload.specs.Reading.{entry_fault, ends_table, last_entry, entries, types, type_at, more_at, quality_at, frame_at, frame_bit, value_at, payload_refusal, need, entry_start}
 use Rattle.payload_laws.proofs.Formats.{plain, first_none, when_none, or_false, is_none_of}
-use Rattle.payload_laws.proofs.Ranges.{map_moved, First, first_of_range, four_bits, four_below, bits_join}
+use Rattle.payload_laws.proofs.Ranges.{map_moved, first_of_range, four_bits, four_below, bits_join}
 use Rattle.payload_laws.proofs.Entries.{length-bits_of, bits_at_is, entry_bits, table_bits}
-use Rattle.payload_laws.proofs.InGrammar.{body, whole, marks_fixed}
-use Rattle.std.specs.Prelude.{◌⊎◌}
+use Rattle.payload_laws.proofs.Whole.{body, whole, marks_fixed}
 use Rattle.std.proofs.lemmas.List.FromFn.{length-map-range_with_len, get_or-map-range_with_len}
 use Rattle.std.proofs.lemmas.List.{take_all}
 use Rattle.std.proofs.Math.Nat.{div-add-mod, le_of_mul-le-mul_right, mul_comm, zero-mul}
-use Rattle.std.proofs.lemmas.Bool.{le-ltb, ne_eqb, eq-eqb, ltb-false, eqb-false}
+use Rattle.std.proofs.lemmas.Bool.{eq-eqb, ltb-false, eqb-false}
 
 -- fixed bits have their layout
 fits_fixed : (a : List Bool) (m : List Mark) (r : List Bool) → fits m r ≡ true → fits (fixed a ++ m) (a ++ r) ≡ true

@@ -1,5 +1,5 @@
 -- The laws of bandwidth-efficient payloads for each valid format.
-use Rattle.std.proofs.Common.{◌≡◌, ℕ, Bool, true, false, List, [], ◌∷◌, subst, Some, None}
+use Rattle.std.proofs.Common.{◌≡◌, ℕ, false, List, [], subst, None}
 use Rattle.amr_frame.specs.declared.profile.Profile.{Profile}
 use Rattle.amr_frame.specs.Profiles.{IsValid}
 use Rattle.spec_payload.specs.Grammar.{IsPayload}

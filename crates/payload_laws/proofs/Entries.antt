@@ -1,7 +1,6 @@
 -- Bits of octets by place, and the bits of a table of contents.
-use Rattle.std.proofs.Common.{◌≡◌, ℕ, zero, suc, ◌+◌, ◌-◌, ◌*◌, ◌/◌, ◌%◌, ◌^◌, ◌<◌, ◌≤◌, Bool, true, false, cond, not, ◌||◌, eqb, ltb, List, [], ◌∷◌, ◌++◌, length, map, take, drop, get_or, sym, refl, ap, ◌∙◌, subst, arith, Option, Some, None, append_assoc, inl, inr, sum}
-use Rattle.std.specs.List.{fold, flat_map, AllByRecursion, range_with_len}
-use Rattle.std.proofs.lemmas.List.{length-append, drop-drop, drop_more, get_or_default, append-nil}
+use Rattle.std.proofs.Common.{◌≡◌, ℕ, zero, suc, ◌+◌, ◌*◌, ◌/◌, ◌%◌, ◌<◌, ◌≤◌, Bool, true, false, List, [], ◌∷◌, ◌++◌, length, take, drop, get_or, sym, refl, ap, ◌∙◌, arith, Some}
+use Rattle.std.proofs.lemmas.List.{length-append, drop_more}
 use Rattle.amr_bits.specs.Bits.{nat, bits_of, bit_at, bits_at}
 use Rattle.amr_bits.specs.Layout.{Mark, fixed, free, fits}
 use Rattle.amr_frame.specs.Frames.{Frame, no_data}

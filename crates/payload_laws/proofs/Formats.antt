@@ -1,12 +1,12 @@
 -- What a valid format that isn't octet-aligned is.
-use Rattle.std.proofs.Common.{◌≡◌, ℕ, zero, suc, ◌≤◌, Bool, true, false, not, ◌||◌, eqb, ltb, List, [], ◌∷◌, sym, refl, ap, ◌∙◌, arith, Option, Some, None}
+use Rattle.std.proofs.Common.{◌≡◌, ℕ, zero, suc, ◌≤◌, Bool, true, false, not, ◌||◌, eqb, ltb, List, ◌∷◌, sym, refl, arith, Option, Some, None}
 use Rattle.std.specs.Prelude.{◌&&◌, is_some}
 use Rattle.std.proofs.lemmas.Bool.{eqb-false}
 use Rattle.amr_frame.specs.declared.codec.Codec.{Codec}
 use Rattle.amr_frame.specs.declared.profile.Profile.{Profile}
 use Rattle.amr_frame.specs.declared.profile.ProfileFault.TheVariants as fault
 use Rattle.amr_frame.specs.First.{when, first}
-use Rattle.amr_frame.specs.Profiles.{IsValid, is_empty_group}
+use Rattle.amr_frame.specs.Profiles.{IsValid}
 
 -- where a list has no first answer its head is none
 pub first_none : {X : Type 0} (o : Option X) (os : List (Option X)) → first (o ∷ os) ≡ None → (o ≡ None) × (first os ≡ None)

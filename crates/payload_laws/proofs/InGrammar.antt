@@ -1,74 +1,29 @@
 -- What is in the bandwidth-efficient grammar is not refused, and is read so.
-use Rattle.std.proofs.Common.{◌≡◌, ℕ, zero, suc, ◌+◌, ◌-◌, ◌*◌, ◌/◌, ◌%◌, ◌^◌, ◌<◌, ◌≤◌, Bool, true, false, cond, not, ◌||◌, eqb, ltb, List, [], ◌∷◌, ◌++◌, length, map, take, drop, get_or, sym, refl, ap, ◌∙◌, subst, arith, Option, Some, None, append_assoc, inl, inr, sum}
-use Rattle.std.specs.Prelude.{is_some, find}
+use Rattle.std.proofs.Common.{◌≡◌, ℕ, zero, suc, ◌+◌, ◌-◌, ◌*◌, ◌/◌, ◌%◌, ◌<◌, ◌≤◌, Bool, true, false, not, ◌||◌, eqb, ltb, List, [], ◌∷◌, ◌++◌, length, map, take, drop, get_or, sym, refl, ap, ◌∙◌, arith, Option, Some, None, append_assoc, sum}
+use Rattle.std.specs.Prelude.{is_some}
 use Rattle.std.specs.Option.{unwrap_or}
-use Rattle.std.specs.List.{fold, flat_map, AllByRecursion, range_with_len}
-use Rattle.std.proofs.lemmas.List.{length-append, length-map, map-append, get_or-map, get_or-append-add, get_or_append_left}
+use Rattle.std.specs.List.{AllByRecursion, range_with_len}
+use Rattle.std.proofs.lemmas.List.{length-append, length-map, get_or-map, get_or-append-add, get_or_append_left}
 use Rattle.std.proofs.lemmas.List.Concat.{get_or-flat_map}
-use Rattle.std.proofs.lemmas.List.Sums.{sum_by-cons}
 use Rattle.std.proofs.lemmas.List.FromFn.{fill_by_all}
-use Rattle.std.proofs.lemmas.Bool.{le-ltb, ne_eqb, eq-eqb}
-use Rattle.std.proofs.lemmas.Bool.Decides.{eqb_tells}
+use Rattle.std.proofs.lemmas.Bool.{le-ltb, ne_eqb}
 use Rattle.std.proofs.Math.Nat.{mul-le-mul_right, mul-mod_left}
 use Rattle.amr_frame.specs.declared.codec.Codec.{Codec}
 use Rattle.amr_frame.specs.declared.profile.Profile.{Profile}
 use Rattle.amr_bits.specs.Bits.{nat, number, bits_of, bit_at, bits_at, number_at, octets_for}
-use Rattle.amr_bits.specs.Layout.{Mark, fixed, free, padded, fits}
 use Rattle.amr_frame.specs.First.{when, first}
 use Rattle.amr_frame.specs.Frames.{Frame, IsFrame, no_data}
 use Rattle.amr_frame.specs.Tables.{bits_in, is_reserved}
 use Rattle.spec_payload.specs.declared.refusal.PayloadRefusal.{PayloadRefusal}
 use Rattle.spec_payload.specs.declared.refusal.PayloadRefusal.TheVariants as why
-use Rattle.spec_payload.specs.Grammar.{IsPayload, table}
+use Rattle.spec_payload.specs.Grammar.{IsPayload}
 use Rattle.spec_payload.specs.Values.{Value, IsValue}
 use Rattle.spec_payload.specs.Reading.{entry_fault, ends_table, last_entry, entries, types, type_at, more_at, quality_at, frame_at, frame_bit, value_at, payload_refusal, need}
 use Rattle.payload_laws.proofs.Marks.{number-nat}
+use Rattle.payload_laws.proofs.Whole.{body, whole, Spelled, spelled, bits_before, body_room, all_before}
 use Rattle.payload_laws.proofs.Formats.{plain}
 use Rattle.payload_laws.proofs.Ranges.{find_from}
-use Rattle.payload_laws.proofs.Entries.{get_or-bits_of, length-bits_of, bits_at_is, fixed_front, free_length, entry_bits, table_bits, more_after, frame_k, table_fixed, length-table, table_at, more_before, none_after}
-
--- the bits of frames, one behind the other
-abbrev pub body : List Frame → List Bool
-body fs = flat_map (λ (f : Frame). f.bits) fs
-
--- the bits of frames are fixed
-body_fixed : (fs : List Frame) → flat_map (λ (f : Frame). fixed f.bits) fs ≡ fixed (body fs)
-body_fixed [] = refl
-body_fixed (f ∷ fs) = ap (λ (t : List Mark). fixed f.bits ++ t) (body_fixed fs) ∙ sym (map-append Some f.bits (body fs))
-
--- the bits of a payload but for the free ones
-abbrev pub whole : Value → List Bool
-whole v = nat 4 v.cmr ++ (table_bits v.frames ++ body v.frames)
-
--- all but the free bits is fixed
-pub marks_fixed : (v : Value) → fixed (nat 4 v.cmr) ++ table 0 v.frames ++ flat_map (λ (f : Frame). fixed f.bits) v.frames ≡ fixed (whole v)
-marks_fixed v = rw (table_fixed v.frames, body_fixed v.frames) (ap (λ (t : List Mark). fixed (nat 4 v.cmr) ++ t) (sym (map-append Some (table_bits v.frames) (body v.frames))))
-
--- the bits of the octets: those of the value, and any bits up to a whole octet
-pub record Spelled (v : Value) (octets : List ℕ) : Type 0 where
-  pub pad : List Bool
-  pub bits : bits_of octets ≡ whole v ++ pad
-  -- as many entries as frames
-  pub count : length octets ≡ octets_for (length (whole v))
-
--- what the grammar says of the bits
-spelled : (codec : Codec) (c m : ℕ) (v : Value) (checks octets : List ℕ) → IsPayload (plain codec c m) v checks octets → Spelled v octets
-spelled codec c m v checks octets h =
-    let k = 8 * octets_for (length (fixed (whole v))) - length (fixed (whole v)) in
-    let e : fits (padded (fixed (whole v))) (bits_of octets) ≡ true = ap (λ ms. fits (padded ms) (bits_of octets)) (sym (marks_fixed v)) ∙ h.bits in
-    let r = fixed_front (whole v) (free k) (bits_of octets) e in
-    let l = free_length k r.0 r.2 in
-    let len = ap length r.1 ∙ length-append (whole v) r.0 in
-    record { pad = r.0; bits = r.1; count = omega (arith, length-bits_of octets, length-map (whole v) Some) }
-
--- how many bits come before those of frame k
-bits_before : (codec : Codec) (fs : List Frame) (k : ℕ) → AllByRecursion (IsFrame codec) fs → length (body (take k fs)) ≡ sum (map (bits_in codec) (take k (map (λ (f : Frame). f.ft) fs)))
-bits_before codec fs zero a = refl
-bits_before codec [] (suc k) a = refl
-bits_before codec (f ∷ fs) (suc k) a =
-    let e = bits_before codec fs k a.1 in
-    let m = map (bits_in codec) (take k (map (λ (x : Frame). x.ft) fs)) in
-    length-append f.bits (body (take k fs)) ∙ ap (λ n. n + length (body (take k fs))) a.0.size ∙ ap (λ n. bits_in codec f.ft + n) e ∙ sym (sum_by-cons (λ x. x) (bits_in codec f.ft) m)
+use Rattle.payload_laws.proofs.Entries.{get_or-bits_of, bits_at_is, entry_bits, table_bits, more_after, frame_k, length-table, table_at, more_before, none_after}
 
 -- three rules that do not hold
 none_of : (a b d : Bool) (x y z : PayloadRefusal) → a ≡ false → b ≡ false → d ≡ false → first (when a x ∷ when b y ∷ when d z ∷ []) ≡ None
@@ -86,19 +41,6 @@ stopped (Some x) b f = refl
 -- the last entry is the first that ends the table
 last_is : (p : Profile) (octets : List ℕ) (k : ℕ) → k ≤ (p.max_blocks * p.channels) → ((j : ℕ) → j < k → ends_table p octets j ≡ false) → ends_table p octets k ≡ true → last_entry p octets ≡ k
 last_is p octets k h none hit = ap (λ (o : Option ℕ). unwrap_or o 0) (find_from (ends_table p octets) 0 ((p.max_blocks * p.channels) + 1) k (omega arith) (omega arith) (λ j l x. none j x) hit)
-
--- the bits of a frame stand inside those of all
-body_room : (gs : List Frame) (k : ℕ) → k < length gs → length (body (take k gs)) + length (frame_k gs k).bits ≤ length (body gs)
-body_room [] k l = absurd (omega arith)
-body_room (g ∷ gs) zero l = omega (arith, length-append g.bits (body gs))
-body_room (g ∷ gs) (suc k) l = let r = body_room gs k (omega arith) in omega (arith, length-append g.bits (body gs), length-append g.bits (body (take k gs)))
-
--- how many bits all frames have
-all_before : (codec : Codec) (gs : List Frame) → AllByRecursion (IsFrame codec) gs → length (body gs) ≡ sum (map (bits_in codec) (map (λ (f : Frame). f.ft) gs))
-all_before codec [] a = refl
-all_before codec (f ∷ gs) a =
-    let e = all_before codec gs a.1 in
-    length-append f.bits (body gs) ∙ ap (λ n. n + length (body gs)) a.0.size ∙ ap (λ n. bits_in codec f.ft + n) e ∙ sym (sum_by-cons (λ x. x) (bits_in codec f.ft) (map (bits_in codec) (map (λ (x : Frame). x.ft) gs)))
 
 -- none of the rules of a bandwidth-efficient format holds
 none_holds : (a b d e : Bool) (o : Option PayloadRefusal) (x y z w : PayloadRefusal) → a ≡ false → o ≡ None → b ≡ false → d ≡ false → e ≡ false → first (when a x ∷ None ∷ None ∷ o ∷ when b y ∷ None ∷ when d z ∷ when e w ∷ []) ≡ None

@@ -14,3 +14,4 @@ pub mod Ranks
 pub mod SameTables
 pub mod Seeing
 pub mod Shapes
+pub mod Whole

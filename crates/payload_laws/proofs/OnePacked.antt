@@ -1,16 +1,16 @@
 -- A bandwidth-efficient payload has one value.
-use Rattle.std.proofs.Common.{◌≡◌, ℕ, zero, suc, ◌+◌, ◌-◌, ◌*◌, ◌/◌, ◌≤◌, Bool, true, false, cond, List, [], ◌∷◌, ◌++◌, length, take, drop, sym, refl, ap, ◌∙◌, subst, arith, append_assoc}
-use Rattle.std.specs.List.{flat_map, AllByRecursion}
+use Rattle.std.proofs.Common.{◌≡◌, ℕ, ◌+◌, ◌-◌, ◌*◌, ◌/◌, cond, List, [], ◌∷◌, ◌++◌, length, sym, refl, ap, ◌∙◌, subst, arith, append_assoc}
+use Rattle.std.specs.List.{flat_map}
 use Rattle.amr_frame.specs.declared.codec.Codec.{Codec}
 use Rattle.amr_frame.specs.declared.profile.Profile.{Profile}
 use Rattle.amr_bits.specs.Bits.{nat, bits_of}
 use Rattle.amr_bits.specs.Layout.{Mark, fixed, free, fits}
-use Rattle.amr_frame.specs.Frames.{Frame, IsFrame}
-use Rattle.amr_frame.specs.Profiles.{IsValid, group_bound}
+use Rattle.amr_frame.specs.Frames.{Frame}
+use Rattle.amr_frame.specs.Profiles.{group_bound}
 use Rattle.amr_frame.specs.Tables.{bits_in}
 use Rattle.spec_payload.specs.Grammar.{IsPayload, table, layout, aligned_layout, packed_layout, checked}
 use Rattle.spec_payload.specs.Values.{Value, FitsGroup}
-use Rattle.payload_laws.proofs.Formats.{IsPlain, plain_of}
+use Rattle.payload_laws.proofs.Formats.{IsPlain}
 use Rattle.payload_laws.proofs.Marks.{Both, both_fixed, one_number}
 use Rattle.payload_laws.proofs.SameTables.{AreFrames, SameHeads, frame, value_parts, both_tables}
 

@@ -1,6 +1,6 @@
 -- What a bandwidth-efficient payload is seen as: its value, since it carries no CRC.
-use Rattle.std.proofs.Common.{◌≡◌, ℕ, Bool, true, false, List, [], ◌∷◌, sym, refl, ap, ◌∙◌, subst, Option, Some, None, inl, inr}
-use Rattle.std.specs.Prelude.{Result, Ok, Err, IsSome, ◌⊎◌, ◌↔◌}
+use Rattle.std.proofs.Common.{◌≡◌, ℕ, false, List, [], ◌∷◌, sym, refl, ap, ◌∙◌, subst, Option, Some, None, inl, inr}
+use Rattle.std.specs.Prelude.{Result, Ok, Err, IsSome, is_some, ◌⊎◌, ◌↔◌}
 use Rattle.amr_frame.specs.declared.profile.Profile.{Profile}
 use Rattle.amr_frame.specs.Frames.{Frame}
 use Rattle.amr_frame.specs.Profiles.{IsValid}
@@ -59,3 +59,24 @@ read_exactly p v octets valid packed = (to, from)
           subst (λ w. IsPayload p w [] octets) s (in_grammar_of p octets valid packed n)
       | inr r ↦ absurd (let h : Err r.0 ≡ Ok v = sym (read_where_some p octets r.0 r.1) ∙ e in cc)
     ]
+
+-- an answer that is there
+is_there : (o : Option PayloadRefusal) (r : PayloadRefusal) → o ≡ Some r → IsSome o
+is_there o r e = ap is_some e
+
+-- an answer isn't there and not there
+not_there : (o : Option PayloadRefusal) → o ≡ None → IsSome o → ⊥
+not_there None e s = absurd cc
+not_there (Some r) e s = absurd cc
+
+-- octets are in the grammar, or a rule refuses them
+pub either : (p : Profile) (octets : List ℕ) → IsValid p → p.octet_aligned ≡ false → IsPayload p (value_at p octets) [] octets ⊎ IsSome (payload_refusal p octets)
+either p octets valid packed =
+    elim (rules (payload_refusal p octets)) [
+      | inl n ↦ inl (in_grammar_of p octets valid packed n)
+      | inr r ↦ inr (is_there (payload_refusal p octets) r.0 r.1)
+    ]
+
+-- never both
+pub not_both : (p : Profile) (v : Value) (checks octets : List ℕ) → IsValid p → p.octet_aligned ≡ false → IsPayload p v checks octets → IsSome (payload_refusal p octets) → ⊥
+not_both p v checks octets valid packed h s = not_there (payload_refusal p octets) (not_refused_of p v checks octets valid packed h) s

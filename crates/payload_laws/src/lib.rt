@@ -8,5 +8,5 @@ mod quality;
 
 pub use crc::has_one_crc;
 pub use grammar::has_one_value;
-pub use packed::{reads_exactly_its_grammar, reads_its_grammar};
+pub use packed::{is_read_or_refused, reads_exactly_its_grammar, reads_its_grammar};
 pub use quality::orders_by_quality;
