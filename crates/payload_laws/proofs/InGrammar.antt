@@ -137,6 +137,7 @@ module _ (codec : Codec) (c m : ℕ) (v : Value) (octets : List ℕ) (h : IsValu
       let f = few in let l = at_least in
       last_is p octets (n - 1) (omega arith) (λ j lt. goes_on j (omega arith)) (stops_at (n - 1) (omega arith))
 
+  -- as many entries as frames
   count : entries p octets ≡ n
   count = let l = at_least in let e = last in omega arith
 

@@ -84,7 +84,7 @@ both_in (x ∷ a) (y ∷ b) m n (c ∷ bits) l e f =
     let s : x ≡ y = same_bit_is x c p.0 ∙ sym (same_bit_is y c q.0) in
     (λ i. s i ∷ r.0 i, r.1)
 
--- the same, for the record
+-- the same of any bits that have both layouts
 pub both_fixed : (a b : List Bool) (m n : List Mark) → length a ≡ length b → Both (fixed a ++ m) (fixed b ++ n) → (a ≡ b) × Both m n
 both_fixed a b m n l h = both_in a b m n h.bits l h.one h.two
 
@@ -94,6 +94,6 @@ free_in zero m n bits e f = record { bits = bits; one = e; two = f }
 free_in (suc k) m n [] e f = absurd cc
 free_in (suc k) m n (b ∷ bits) e f = free_in k m n bits e f
 
--- the same, for the record
+-- the same of any bits that have both layouts
 pub both_free : (k : ℕ) (m n : List Mark) → Both (free k ++ m) (free k ++ n) → Both m n
 both_free k m n h = free_in k m n h.bits h.one h.two

@@ -33,7 +33,7 @@ alike_in (x ∷ a) (y ∷ b) m n (c ∷ bits) s e f =
     let z = one_mark x y c h p.0 q.0 in
     (λ i. z i ∷ r.0 i, r.1)
 
--- the same, for the record
+-- the same of any bits that have both layouts
 both_alike : (a b m n : List Mark) → shape a ≡ shape b → Both (a ++ m) (b ++ n) → (a ≡ b) × Both m n
 both_alike a b m n s h = alike_in a b m n h.bits s h.one h.two
 

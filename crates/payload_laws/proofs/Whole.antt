@@ -34,7 +34,6 @@ marks_fixed v = rw (table_fixed v.frames, body_fixed v.frames) (ap (λ (t : List
 pub record Spelled (v : Value) (octets : List ℕ) : Type 0 where
   pub pad : List Bool
   pub bits : bits_of octets ≡ whole v ++ pad
-  -- as many entries as frames
   pub count : length octets ≡ octets_for (length (whole v))
 
 -- what the grammar says of the bits
