@@ -1,0 +1,10 @@
+-- Counts of faults: what a failed call does to one. The count is ours: std's readers and writers have none.
+use Rattle.std.specs.Prelude.{◌≡◌, ℕ, ◌-◌, ◌^◌, ◌<◌, ◌≤◌, ◌⊎◌, MatchResult, Result}
+
+-- the count rose: it is greater, or stands at 2 ^ 64 - 1, past which it does not go
+abbrev pub Rose : ℕ → ℕ → Type 0
+Rose before after = (before ≤ after) × (after ≤ 2 ^ 64 - 1) × ((before < after) ⊎ (after ≡ 2 ^ 64 - 1))
+
+-- a call that fails raised the count, and any other leaves it as before
+abbrev pub HasCause : {A E : Type 0} → ℕ → ℕ → Result A E → Type 0
+HasCause before after r = MatchResult r (λ _. after ≡ before) (λ _. Rose before after)

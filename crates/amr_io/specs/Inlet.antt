@@ -1,0 +1,34 @@
+-- What an inlet stands for, and what a fill does to it. It is ours.
+use Rattle.std.specs.Prelude.{◌≡◌, ℕ, ◌+◌, ◌≤◌, ◌<◌, List, [], ◌∷◌, ◌++◌, length, Option, Result, Ok, Err}
+use Rattle.std.specs.Io.KnownBytes.{Keeps, Consumes, IsAtEnd}
+use Rattle.amr_io.specs.declared.gate.Gate.{Gate}
+use Rattle.amr_io.specs.declared.gate.Gate.TheVariants as gate
+use Rattle.amr_io.specs.declared.gate.Filled.{Filled}
+use Rattle.amr_io.specs.declared.gate.Filled.TheVariants.{More, End, OverLimit}
+use Rattle.amr_io.specs.declared.source.Failed.{Failed}
+
+-- the octets held, how many may be held, how many may be taken in all, how many were taken, and whether more may come
+pub record Tank : Type 0 where
+  pub held : List ℕ
+  pub size : ℕ
+  pub limit : ℕ
+  pub taken : ℕ
+  pub gate : Gate
+
+-- what was read was appended, within size and limit
+abbrev pub FillsMore : Option (List ℕ) → Option (List ℕ) → Tank → Tank → ℕ → Type 0
+FillsMore left left' old new count = (octets : List ℕ) × (length octets ≡ count) × (0 < count)
+    × (old.taken + count ≤ old.limit) × (length old.held + count ≤ old.size)
+    × Consumes left left' octets × (new ≡ record old { held = old.held ++ octets; taken = old.taken + count })
+
+-- a read past the limit took one octet, which is not held
+abbrev pub PassesLimit : Option (List ℕ) → Option (List ℕ) → Tank → Tank → Type 0
+PassesLimit left left' old new = (octet : ℕ) × (old.taken ≡ old.limit) × Consumes left left' (octet ∷ [])
+    × (new ≡ record old { gate = gate.OverLimit })
+
+-- what a fill of an open inlet does, by its answer
+abbrev pub Fills : Option (List ℕ) → Option (List ℕ) → Tank → Tank → Result Filled Failed → Type 0
+Fills left left' old new (Ok (More count)) = FillsMore left left' old new count
+Fills left left' old new (Ok End) = IsAtEnd left × Keeps left left' × (new ≡ record old { gate = gate.End })
+Fills left left' old new (Ok OverLimit) = PassesLimit left left' old new
+Fills left left' old new (Err _) = Keeps left left' × (new ≡ record old { gate = gate.Spent })

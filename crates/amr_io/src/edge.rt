@@ -1,0 +1,100 @@
+// The trusted edge: std's readers and writers as a source and a sink.
+ghost use Rattle.std.specs.Prelude.{◌≡◌, ◌+◌, ◌-◌, ◌^◌, ◌<◌, ℕ, List, [], length, min, Some, OnErr};
+ghost use Rattle.amr_io.specs.Fault.{HasCause};
+ghost use Rattle.amr_io.specs.Told.{Reads, Writes};
+
+use crate::sink::Sink;
+use crate::source::{Failed, Source};
+use std::io::{Read, Write};
+
+/// A source over a reader of std. It tells what the reader tells.
+///
+/// Each `Err` of the reader, of any kind, counts as one fault and is not tried again.
+#[derive(Drop)]
+pub struct ReadSource<R> {
+    inner: R,
+    faults: u64,
+}
+
+impl<R: Read> ReadSource<R> {
+    /// A source over `inner`, with no fault.
+    pub fn new(inner: R) -> ReadSource<R>
+        ensures left { ⟦<ReadSource<R> as Source>⟧.left result ≡ R.remaining inner }
+        ensures faults { ⟦<ReadSource<R> as Source>⟧.faults result ≡ 0 }
+    {
+        ReadSource { inner, faults: 0 }
+    }
+}
+
+impl<R: Read> Source for ReadSource<R> {
+    ghost left = { λ s. R.remaining s.inner };
+
+    ghost faults = { λ s. s.faults };
+
+    /// Makes one read. A read that fails raises the count by one, up to 2 ^ 64 - 1.
+    fn read(&mut self, buf: &mut [u8]) -> Result<usize, Failed>
+        requires room { 0 < length buf.old }
+
+        ensures octets { Reads (R.remaining self.old.inner) (R.remaining self.new.inner) result buf.new }
+        ensures cause { HasCause self.old.faults self.new.faults result }
+        ensures counted { OnErr result (self.new.faults ≡ min (self.old.faults + 1) (2 ^ 64 - 1)) }
+    {
+        match self.inner.read(buf) {
+            Ok(count) => Ok(count),
+            Err(_) => {
+                self.faults = self.faults.saturating_add(1);
+                Err(Failed)
+            }
+        }
+    }
+}
+
+/// A sink over a writer of std. It tells what the writer tells.
+///
+/// Each `Err` of the writer, of any kind, and each write that takes none of a piece counts as one fault and is not tried again.
+#[derive(Drop)]
+pub struct WriteSink<W> {
+    inner: W,
+    faults: u64,
+}
+
+impl<W: Write> WriteSink<W> {
+    /// A sink over `inner`, with no fault.
+    pub fn new(inner: W) -> WriteSink<W>
+        ensures got { ⟦<WriteSink<W> as Sink>⟧.got result ≡ W.contents inner }
+        ensures faults { ⟦<WriteSink<W> as Sink>⟧.faults result ≡ 0 }
+    {
+        WriteSink { inner, faults: 0 }
+    }
+}
+
+impl<W: Write> Sink for WriteSink<W> {
+    ghost got = { λ s. W.contents s.inner };
+
+    ghost beside = { λ _. Some [] };
+
+    ghost faults = { λ s. s.faults };
+
+    ghost same = { λ _ _. Unit {0} };
+
+    /// Makes one write. A write that fails or takes none raises the count by one, up to 2 ^ 64 - 1.
+    fn write(&mut self, bytes: &[u8]) -> Result<usize, Failed>
+        requires some { 0 < length bytes.now }
+
+        ensures octets { Writes (W.contents self.old.inner) (W.contents self.new.inner) result bytes.now }
+        ensures cause { HasCause self.old.faults self.new.faults result }
+        ensures counted { OnErr result (self.new.faults ≡ min (self.old.faults + 1) (2 ^ 64 - 1)) }
+    {
+        match self.inner.write(bytes) {
+            Ok(count) if count > 0 => Ok(count),
+            _ => {
+                self.faults = self.faults.saturating_add(1);
+                Err(Failed)
+            }
+        }
+    }
+
+    ghost reflexive = { λ _. tt };
+
+    ghost transitive = { λ _ _ _ _ _. tt };
+}

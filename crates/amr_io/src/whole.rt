@@ -1,0 +1,27 @@
+// Writing all of a piece.
+ghost use Rattle.std.specs.Prelude.{◌≡◌, [], Ok, OnOk, OnErr};
+ghost use Rattle.std.specs.Io.KnownBytes.{Appends};
+ghost use Rattle.amr_io.specs.Fault.{HasCause};
+ghost use Rattle.amr_io.specs.Told.{AppendsPart};
+
+use crate::sink::Sink;
+use crate::source::Failed;
+
+/// Writes all of `bytes`, in as many writes as the sink needs. An empty piece needs none.
+///
+/// `Failed` comes only where the sink's faults rose. A proper prefix of `bytes`, never the whole, was then written.
+pub fn write_whole<S: Sink>(sink: &mut S, bytes: &[u8]) -> Result<(), Failed>
+    ensures whole { OnOk result (Appends (S.got sink.old) (S.got sink.new) bytes.now) }
+    ensures part { OnErr result (AppendsPart (S.got sink.old) (S.got sink.new) bytes.now) }
+    ensures empty { bytes.now ≡ [] → (result ≡ Ok tt) × (sink.new ≡ sink.old) }
+
+    ensures cause { HasCause (S.faults sink.old) (S.faults sink.new) result }
+    ensures beside { S.beside sink.new ≡ S.beside sink.old }
+    ensures same { S.same sink.old sink.new }
+{
+    let mut done = 0;
+    while done < bytes.len() {
+        done += sink.write(&bytes[done..])?;
+    }
+    Ok(())
+}
