@@ -1,5 +1,5 @@
 -- What an inlet stands for, and what a fill does to it. It is ours.
-use Rattle.std.specs.Prelude.{◌≡◌, ℕ, ◌+◌, ◌≤◌, ◌<◌, List, [], ◌∷◌, ◌++◌, length, Option, Result, Ok, Err}
+use Rattle.std.specs.Prelude.{◌≡◌, ◌↔◌, ℕ, ◌+◌, ◌≤◌, ◌<◌, List, [], ◌∷◌, ◌++◌, length, Option, Result, Ok, Err, IfOk, IfSome}
 use Rattle.std.specs.Io.KnownBytes.{Keeps, Consumes, IsAtEnd}
 use Rattle.amr_io.specs.declared.gate.Gate.{Gate}
 use Rattle.amr_io.specs.declared.gate.Gate.TheVariants as gate
@@ -32,3 +32,7 @@ Fills left left' old new (Ok (More count)) = FillsMore left left' old new count
 Fills left left' old new (Ok End) = IsAtEnd left × Keeps left left' × (new ≡ record old { gate = gate.End })
 Fills left left' old new (Ok OverLimit) = PassesLimit left left' old new
 Fills left left' old new (Err _) = Keeps left left' × (new ≡ record old { gate = gate.Spent })
+
+-- where the source tells its octets and the fill is served, this answer comes exactly where the fact holds of what was left
+abbrev pub ComesExactly : Option (List ℕ) → Result Filled Failed → Filled → (List ℕ → Type 0) → Type 0
+ComesExactly left r filled fact = IfSome left (λ octets. IfOk r (λ answer. (answer ≡ filled) ↔ fact octets))

@@ -2,10 +2,12 @@
 ghost use Rattle.std.specs.Prelude.{◌≡◌, ◌+◌, ◌-◌, ◌^◌, ◌<◌, ℕ, List, [], length, min, Some, OnErr};
 ghost use Rattle.amr_io.specs.Fault.{HasCause};
 ghost use Rattle.amr_io.specs.Told.{Reads, Writes};
+ghost use Rattle.amr_io.specs.Edge.{Counted};
 
 use crate::sink::Sink;
 use crate::source::{Failed, Source};
 use std::io::{Read, Write};
+use std::marker::Model;
 
 /// A source over a reader of std. It tells what the reader tells.
 ///
@@ -16,11 +18,16 @@ pub struct ReadSource<R> {
     faults: u64,
 }
 
-impl<R: Read> ReadSource<R> {
+impl<R> Model for ReadSource<R> {
+    ghost Value = { Counted R };
+
+    ghost view = { λ s. record { inner = s.inner; faults = s.faults } };
+}
+
+impl<R> ReadSource<R> {
     /// A source over `inner`, with no fault.
     pub fn new(inner: R) -> ReadSource<R>
-        ensures left { ⟦<ReadSource<R> as Source>⟧.left result ≡ R.remaining inner }
-        ensures faults { ⟦<ReadSource<R> as Source>⟧.faults result ≡ 0 }
+        ensures fresh { result ≡ record { inner = inner; faults = 0 } }
     {
         ReadSource { inner, faults: 0 }
     }
@@ -58,11 +65,16 @@ pub struct WriteSink<W> {
     faults: u64,
 }
 
-impl<W: Write> WriteSink<W> {
+impl<W> Model for WriteSink<W> {
+    ghost Value = { Counted W };
+
+    ghost view = { λ s. record { inner = s.inner; faults = s.faults } };
+}
+
+impl<W> WriteSink<W> {
     /// A sink over `inner`, with no fault.
     pub fn new(inner: W) -> WriteSink<W>
-        ensures got { ⟦<WriteSink<W> as Sink>⟧.got result ≡ W.contents inner }
-        ensures faults { ⟦<WriteSink<W> as Sink>⟧.faults result ≡ 0 }
+        ensures fresh { result ≡ record { inner = inner; faults = 0 } }
     {
         WriteSink { inner, faults: 0 }
     }

@@ -23,6 +23,7 @@ impl<'a> FaultlessSource<'a> {
     /// A source of these octets, with no fault.
     pub fn over(octets: &'a [u8]) -> FaultlessSource<'a>
         ensures left { result ≡ octets.now }
+        ensures faults { ⟦<FaultlessSource<'a> as Source>⟧.faults result ≡ 0 }
     {
         FaultlessSource { rest: octets }
     }

@@ -3,7 +3,7 @@ ghost use Rattle.std.specs.Prelude.{◌≡◌, ◌≢◌, ◌+◌, ◌-◌, ◌<
 ghost use Rattle.std.specs.Io.KnownBytes.{Keeps, Consumes};
 ghost use Rattle.amr_io.specs.Fault.{HasCause};
 ghost use Rattle.amr_io.specs.Told.{EndsAt};
-ghost use Rattle.amr_io.specs.Inlet.{Fills};
+ghost use Rattle.amr_io.specs.Inlet.{Fills, ComesExactly};
 
 use crate::gate::{Filled, Gate};
 use crate::source::{Failed, Source};
@@ -59,7 +59,9 @@ fn read_behind<S: Source>(
     requires within { at + most ≤ length room.old }
 
     ensures front { take at room.new ≡ take at room.old }
-    ensures octets { IfOk result (λ n. (n ≤ most) × Consumes (S.left source.old) (S.left source.new) (slice_range room.new at (at + n)) × EndsAt (S.left source.old) n) }
+    ensures count { IfOk result (λ n. n ≤ most) }
+    ensures octets { IfOk result (λ n. Consumes (S.left source.old) (S.left source.new) (slice_range room.new at (at + n))) }
+    ensures end { IfOk result (λ n. EndsAt (S.left source.old) n) }
     ensures failed { OnErr result (Keeps (S.left source.old) (S.left source.new)) }
     ensures cause { HasCause (S.faults source.old) (S.faults source.new) result }
 {
@@ -92,6 +94,7 @@ impl Inlet {
     /// `More` says how many were appended to those held. `End` comes exactly where the read gave none. Where the limit is reached,
     /// one octet is read instead, and `OverLimit` comes where there is one. After `End` and `OverLimit` each further call gives the
     /// same answer without a read. `Failed` comes only where the source's faults rose: the inlet is then spent.
+    #[tactic(auto, using(crate::proofs::Filling::fills_end, crate::proofs::Filling::fills_over))]
     pub fn fill<S: Source>(&mut self, source: &mut S) -> Result<Filled, Failed>
         requires usable { self.old.gate ≢ Gate.Spent }
         requires room { length self.old.held < self.old.size }
@@ -100,6 +103,10 @@ impl Inlet {
         ensures ended { self.old.gate ≡ Gate.End → (result ≡ Ok Filled.End) × (self.new ≡ self.old) × (source.new ≡ source.old) }
         ensures over { self.old.gate ≡ Gate.OverLimit → (result ≡ Ok Filled.OverLimit) × (self.new ≡ self.old) × (source.new ≡ source.old) }
         ensures cause { HasCause (S.faults source.old) (S.faults source.new) result }
+
+        // Where a source that tells its octets serves the read, the answer is determined.
+        ensures end_exactly { self.old.gate ≡ Gate.Open → ComesExactly (S.left source.old) result Filled.End (λ octets. octets ≡ []) }
+        ensures over_exactly { self.old.gate ≡ Gate.Open → ComesExactly (S.left source.old) result Filled.OverLimit (λ octets. (self.old.taken ≡ self.old.limit) × (octets ≢ [])) }
     {
         match self.gate {
             Gate::End => Ok(Filled::End),

@@ -1,11 +1,59 @@
+ghost use Rattle.std.specs.Prelude.{◌≡◌};
+
 use crate::{
-    DropSink, Failed, FaultlessSource, Filled, Inlet, MemorySink, MemorySource, ReadSource, Sink,
-    Source, WriteSink, write_whole,
+    DropSink, Failed, FaultlessSource, Filled, Gate, Inlet, MemorySink, MemorySource, ReadSource,
+    Sink, Source, WriteSink, write_whole,
 };
+use std::alloc::AllocError;
+use std::io;
+use std::io::{ErrorKind, Read, Write};
 use std::test::Fail;
+
+// A reader and a writer of std whose first call is interrupted; the second one would be served.
+#[derive(Drop)]
+struct Interrupted {
+    calls: u8,
+}
+
+impl Read for Interrupted {
+    fn read(&mut self, _buf: &mut [u8]) -> io::Result<usize> {
+        self.calls = self.calls.saturating_add(1);
+        if self.calls == 1 {
+            return Err(ErrorKind::Interrupted.into());
+        }
+        Ok(0)
+    }
+}
+
+impl Write for Interrupted {
+    fn write(&mut self, buf: &[u8]) -> io::Result<usize> {
+        self.calls = self.calls.saturating_add(1);
+        if self.calls == 1 {
+            return Err(ErrorKind::Interrupted.into());
+        }
+        Ok(buf.len())
+    }
+
+    fn flush(&mut self) -> io::Result<()> {
+        Ok(())
+    }
+}
 
 fn read_some<S: Source>(source: &mut S, buf: &mut [u8; 4]) -> Result<usize, Failed> {
     source.read(buf)
+}
+
+// Reads up to four octets and appends them to those given before. A failure is `None`.
+fn read_onto(
+    source: &mut MemorySource,
+    given: &mut Vec<u8>,
+) -> Result<Option<usize>, AllocError> {
+    let mut buf = [0u8; 4];
+    let Ok(count) = source.read(&mut buf) else {
+        return Ok(None);
+    };
+    given.extend_from_slice(&buf[..count])?;
+    Ok(Some(count))
 }
 
 fn write_some<S: Sink>(sink: &mut S) -> Result<usize, Failed> {
@@ -26,15 +74,8 @@ fn a_memory_source_gives_its_octets_in_cuts(rt: HostRuntime) -> Result<(), Fail>
         let mut source = MemorySource::create(rt.alloc(), b"abcde", cut.max(1), failing)?;
         let mut given = Vec::new(rt.alloc());
         for want in wanted {
-            let mut buf = [0u8; 4];
-            let count = match read_some(&mut source, &mut buf) {
-                Ok(count) => {
-                    given.extend_from_slice(&buf[..count])?;
-                    count
-                }
-                Err(Failed) => 9,
-            };
-            assert_eq!(rt; count, want, "at cut {cut}");
+            let count = read_onto(&mut source, &mut given)?;
+            assert_eq!(rt; count.unwrap_or(9), want, "at cut {cut}");
         }
         assert_eq!(rt; given.as_slice(), octets, "at cut {cut}");
     }
@@ -76,4 +117,99 @@ fn a_whole_piece_is_written_or_a_proper_prefix(rt: HostRuntime) -> Result<(), Fa
     assert_eq!(rt; write_some(&mut drop), Ok(4));
     assert_eq!(rt; write_whole(&mut drop, b"abcd"), Ok(()));
     Ok(())
+}
+
+// The answers of four fills of an inlet of 8 octets. After a failure, and where it is full, it makes no more.
+fn four_fills(source: &mut MemorySource, inlet: &mut Inlet) -> [Result<Filled, Failed>; 4]
+    requires open { inlet.old.gate ≡ Gate.Open }
+    requires size { inlet.old.size ≡ 8 }
+{
+    let mut answers = [Err(Failed); 4];
+    for i in 0..4 {
+        if inlet.held().len() == 8 {
+            break;
+        }
+        match inlet.fill(source) {
+            Ok(filled) => answers[i] = Ok(filled),
+            Err(Failed) => break,
+        }
+    }
+    answers
+}
+
+#[test]
+fn an_inlet_stops_at_its_limit_at_the_end_and_at_a_fault(rt: HostRuntime) -> Result<(), Fail> {
+    let more = |count| Ok(Filled::More { count });
+    let (end, over) = (Ok(Filled::End), Ok(Filled::OverLimit));
+    let failed = Err(Failed);
+    // The octets, the cut and the calls that fail of the source, the limit, the answers, and what is then held.
+    // Where the end or the limit has shown, the next call of the source would fail, if it were made.
+    let rows: [(&[u8], usize, &[u64], u64, [Result<Filled, Failed>; 4], &[u8]); 8] = [
+        (b"abcdef", 3, &[3], 4, [more(3), more(1), over, over], b"abcd"),
+        (b"abcde", 9, &[2], 4, [more(4), over, over, over], b"abcd"),
+        (b"abcd", 2, &[3], 4, [more(2), more(2), end, end], b"abcd"),
+        (b"abc", 9, &[2], 9, [more(3), end, end, end], b"abc"),
+        (b"", 1, &[1], 1, [end, end, end, end], b""),
+        (b"abcd", 1, &[1], 9, [more(1), failed, failed, failed], b"a"),
+        (b"abc", 9, &[1], 2, [more(2), failed, failed, failed], b"ab"),
+        (b"abcdefghij", 5, &[], 99, [more(5), more(3), failed, failed], b"abcdefgh"),
+    ];
+    for (octets, cut, failing, limit, wanted, held) in rows {
+        let mut source = MemorySource::create(rt.alloc(), octets, cut.max(1), failing)?;
+        let mut inlet = Inlet::create(rt.alloc(), 8, limit.max(1))?;
+        assert_eq!(rt; four_fills(&mut source, &mut inlet), wanted, "at limit {limit}");
+        assert_eq!(rt; inlet.held(), held, "at limit {limit}");
+        assert_eq!(rt; inlet.taken(), held.len() as u64, "at limit {limit}");
+    }
+    Ok(())
+}
+
+#[test]
+fn an_inlet_drops_what_was_used_and_fills_again(rt: HostRuntime) -> Result<(), Fail> {
+    let mut source = FaultlessSource::over(b"abcdefg");
+    let mut inlet = Inlet::create(rt.alloc(), 4, 9)?;
+    assert_eq!(rt; inlet.fill(&mut source), Ok(Filled::More { count: 4 }));
+    assert!(rt; inlet.held().len() == 4);
+    inlet.take(3);
+    assert_eq!(rt; inlet.held(), b"d".as_slice());
+    assert_eq!(rt; inlet.taken(), 4);
+    assert_eq!(rt; inlet.fill(&mut source), Ok(Filled::More { count: 3 }));
+    assert_eq!(rt; inlet.held(), b"defg".as_slice());
+    assert_eq!(rt; inlet.taken(), 7);
+    Ok(())
+}
+
+#[test]
+fn readers_and_writers_of_std_are_sources_and_sinks(rt: HostRuntime) -> Result<(), Fail> {
+    let mut source = ReadSource::new(b"abcdef".as_slice());
+    let mut buf = [0u8; 4];
+    assert_eq!(rt; read_some(&mut source, &mut buf), Ok(4));
+    assert_eq!(rt; buf, *b"abcd");
+    assert_eq!(rt; read_some(&mut source, &mut buf), Ok(2));
+    assert_eq!(rt; buf, *b"efcd");
+    assert_eq!(rt; read_some(&mut source, &mut buf), Ok(0));
+    let mut written = Vec::new(rt.alloc());
+    let mut sink = WriteSink::new(&mut written);
+    assert_eq!(rt; write_whole(&mut sink, b"ab"), Ok(()));
+    assert_eq!(rt; write_some(&mut sink), Ok(4));
+    assert_eq!(rt; written.as_slice(), b"abwxyz".as_slice());
+    // A slice takes none where it has no room left: that counts as a fault.
+    let mut room = [0u8; 5];
+    let mut small = WriteSink::new(&mut room[..]);
+    assert_eq!(rt; write_some(&mut small), Ok(4));
+    assert_eq!(rt; write_some(&mut small), Ok(1));
+    assert_eq!(rt; write_some(&mut small), Err(Failed));
+    assert_eq!(rt; room, *b"wxyzw");
+    Ok(())
+}
+
+#[test]
+fn an_interrupted_call_is_a_fault_and_is_not_made_again(rt: HostRuntime) {
+    let mut buf = [0u8; 4];
+    let mut source = ReadSource::new(Interrupted { calls: 0 });
+    assert_eq!(rt; read_some(&mut source, &mut buf), Err(Failed));
+    assert_eq!(rt; read_some(&mut source, &mut buf), Ok(0));
+    let mut sink = WriteSink::new(Interrupted { calls: 0 });
+    assert_eq!(rt; write_whole(&mut sink, b"ab"), Err(Failed));
+    assert_eq!(rt; write_whole(&mut sink, b"ab"), Ok(()));
 }

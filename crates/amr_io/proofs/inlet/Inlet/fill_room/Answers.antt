@@ -11,10 +11,10 @@ returns-in-Ok-clause-fills g c =
     let at = inside.end - inside.start in
     let n = c.in-Ok.count in
     let room = c.read_behind.new.room in
-    let read = c.in-Ok.ensures.octets in
+    let fits_most = c.in-Ok.ensures.count in
     let held : c.args.self.now.held ≡ slice_range inside.room.items inside.start inside.end = sym (ap (λ v. v.held) c.self.view_is) in
     let size : c.args.self.now.size ≡ vec_len inside.room = sym (ap (λ v. v.size) c.self.view_is) in
-    let fits : at + n ≤ length room = omega (arith, read.0, c.self.invariant) in
+    let fits : at + n ≤ length room = omega (arith, fits_most, c.self.invariant) in
     let opened : c.deref_mut.result.now ≡ inside.room.items = c.deref_mut.ensures.value in
     let kept : length c.move_to_front.new.room ≡ inside.room.len = omega (arith, c.move_to_front.auto.room, c.deref_mut.ensures.len) in
     let moved_in : (with_items inside.room c.move_to_front.new.room).items ≡ c.move_to_front.new.room = with_items_is inside.room c.move_to_front.new.room kept in
@@ -26,8 +26,8 @@ returns-in-Ok-clause-fills g c =
       slice_range room at (at + n),
       length_of_part room at n fits,
       omega (arith, c.in-Ok.count-test),
-      omega (arith, read.0, ap (λ v. v.taken) c.self.view_is, ap (λ v. v.limit) c.self.view_is),
-      rw (held, size) (omega (arith, length-take {A = ℕ}, length-drop {A = ℕ}, c.self.invariant, read.0)),
-      read.1,
+      omega (arith, fits_most, ap (λ v. v.taken) c.self.view_is, ap (λ v. v.limit) c.self.view_is),
+      rw (held, size) (omega (arith, length-take {A = ℕ}, length-drop {A = ℕ}, c.self.invariant, fits_most)),
+      c.in-Ok.ensures.octets,
       rw (← c.self.view_is) (ap (λ (h : List ℕ). record { held = h; size = vec_len inside.room; limit = inside.limit; taken = inside.taken + n; gate = inside.gate }) (ap (λ (l : List ℕ). slice_range l 0 (at + n)) read_in ∙ more)),
     )
