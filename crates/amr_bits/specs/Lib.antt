@@ -1,2 +1,4 @@
 pub mod Bits
 pub mod Layout
+pub mod Runs
+pub mod Written

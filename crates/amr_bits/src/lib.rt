@@ -1,3 +1,10 @@
-//! Runs of bits in octets, the most significant bit first: borrowed, written one behind the other,
-//! and kept by value.
+//! Runs of bits in octets, the most significant bit first: borrowed, kept by value, and written one
+//! behind the other.
 #![tactic(auto)]
+
+mod copying;
+mod fixed;
+mod slice;
+
+pub use fixed::FixedBits;
+pub use slice::BitSlice;

@@ -1,0 +1,6 @@
+pub mod Runs
+pub mod Numbers
+pub mod Filled
+pub mod Places
+pub mod Copied
+pub mod Equal

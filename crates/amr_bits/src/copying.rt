@@ -1,0 +1,61 @@
+ghost use Rattle.std.specs.Prelude.{◌≡◌, ℕ, ◌+◌, ◌*◌, ◌/◌, ◌%◌, ◌^◌, ◌-◌, ◌≤◌, ◌<◌, length, map};
+ghost use Rattle.std.specs.List.{range_with_len};
+ghost use Rattle.amr_bits.specs.Bits.{number_at, octets_for as octets_needed};
+
+/// How many octets hold so many bits.
+pub fn octets_for(bits: usize) -> usize
+    ensures { result ≡ octets_needed bits }
+{
+    bits / 8 + (bits % 8 + 7) / 8
+}
+
+/// The number that the `width` bits from bit `start` on spell.
+pub fn number_from(octets: &[u8], start: usize, width: usize) -> u32
+    requires start { start < 8 }
+    requires width { width ≤ 32 }
+    requires fits { start + width ≤ 8 * length octets.now }
+    ensures bits { result ≡ number_at octets.now start width }
+    ensures below { result < 2 ^ width }
+{
+    let count = octets_for(start + width);
+    let mut value = 0u64;
+    for at in 0..count {
+        value = 256 * value + octets[at] as u64;
+    }
+    let behind = (8 * count - start - width) as u32;
+    ((value >> behind) % (1u64 << width as u32)) as u32
+}
+
+/// Copies whole octets that begin at bit `start`: `out` takes the bits from there on.
+pub fn copy_octets(octets: &[u8], start: usize, out: &mut [u8])
+    requires start { start < 8 }
+    requires fits { start + 8 * length out.old ≤ 8 * length octets.now }
+    ensures { out.new ≡ map (λ k. number_at octets.now (8 * k + start) 8) (range_with_len 0 (length out.old)) }
+{
+    if start == 0 {
+        out.copy_from_slice(&octets[..out.len()]);
+    } else {
+        copy_shifted(octets, start as u32, out);
+    }
+}
+
+/// Copies whole octets that stand across two each.
+fn copy_shifted(octets: &[u8], shift: u32, out: &mut [u8])
+    requires above { 0 < shift }
+    requires below { shift < 8 }
+    requires fits { length out.old < length octets.now }
+    ensures { out.new ≡ map (λ k. number_at octets.now (8 * k + shift) 8) (range_with_len 0 (length out.old)) }
+{
+    for at in 0..out.len() {
+        out[at] = across(octets[at], octets[at + 1], shift);
+    }
+}
+
+/// The octet that begins at bit `shift` of the first of two octets.
+fn across(first: u8, second: u8, shift: u32) -> u8
+    requires above { 0 < shift }
+    requires below { shift < 8 }
+    ensures { result ≡ (256 * first + second) / 2 ^ (8 - shift) % 256 }
+{
+    first << shift | second >> (8 - shift)
+}
