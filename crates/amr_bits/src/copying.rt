@@ -1,4 +1,4 @@
-ghost use Rattle.std.specs.Prelude.{◌≡◌, ℕ, ◌+◌, ◌*◌, ◌/◌, ◌%◌, ◌^◌, ◌-◌, ◌≤◌, ◌<◌, length, map};
+ghost use Rattle.std.specs.Prelude.{◌≡◌, ℕ, ◌+◌, ◌*◌, ◌/◌, ◌%◌, ◌^◌, ◌-◌, ◌≤◌, ◌<◌, length, map, slice_index};
 ghost use Rattle.std.specs.List.{range_with_len};
 ghost use Rattle.amr_bits.specs.Bits.{number_at, octets_for as octets_needed};
 
@@ -59,3 +59,8 @@ fn across(first: u8, second: u8, shift: u32) -> u8
 {
     first << shift | second >> (8 - shift)
 }
+
+/// Each octet is below 256. Says so, and does nothing.
+pub fn are_octets(octets: &[u8])
+    ensures { (k : ℕ) → slice_index octets.now k < 256 }
+{}

@@ -5,6 +5,8 @@
 mod copying;
 mod fixed;
 mod slice;
+mod writer;
 
 pub use fixed::FixedBits;
 pub use slice::BitSlice;
+pub use writer::BitWriter;
