@@ -5,6 +5,8 @@
 mod copying;
 mod fixed;
 mod slice;
+#[cfg(test)]
+mod tests;
 mod writer;
 
 pub use fixed::FixedBits;
