@@ -1,7 +1,7 @@
 ghost use Rattle.std.specs.Prelude.{◌≡◌, ℕ, ◌+◌, ◌*◌, ◌/◌, ◌≤◌, ◌<◌, ◌↔◌, [], length, false, slice_index};
 ghost use Rattle.amr_bits.specs.Bits.{bit_at};
 
-use crate::copying::{are_octets, octets_for};
+use crate::copying::{are_octets, octets_needed};
 use crate::slice::BitSlice;
 
 /// Up to `8 * N` bits, kept by value; the bits of the octets past `len` are 0.
@@ -35,7 +35,7 @@ impl<const N: usize> FixedBits<N> {
         ensures len { result.len ≡ bits.entry.len }
     {
         let mut octets = [0; N];
-        bits.copy_to(&mut octets[..octets_for(bits.len)]);
+        bits.copy_to(&mut octets[..octets_needed(bits.len)]);
         FixedBits {
             octets,
             len: bits.len,

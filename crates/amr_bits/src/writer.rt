@@ -1,9 +1,9 @@
 ghost use Rattle.std.specs.Prelude.{◌≡◌, ℕ, ◌+◌, ◌-◌, ◌*◌, ◌/◌, ◌%◌, ◌^◌, ◌≤◌, ◌<◌, ◌++◌, false, length, drop, take, replicate};
-ghost use Rattle.amr_bits.specs.Bits.{filled, nat, octets_for as octets_needed};
+ghost use Rattle.amr_bits.specs.Bits.{filled, nat, octets_for};
 ghost use Rattle.amr_bits.specs.Runs.{run};
 ghost use Rattle.amr_bits.specs.Written.{front};
 
-use crate::copying::{are_octets, octets_for};
+use crate::copying::{are_octets, octets_needed};
 use crate::slice::BitSlice;
 
 /// The place in octets up to which bits are written. The octets are passed beside it at each call.
@@ -36,8 +36,8 @@ impl BitWriter {
         requires counts { self.old.written + width < 2 ^ 64 }
         ensures written { self.new.written ≡ self.old.written + width }
         ensures bits { front out.new self.new.written ≡ front out.old self.old.written ++ nat width value }
-        ensures filled { take (octets_needed self.new.written) out.new ≡ filled (front out.new self.new.written) }
-        ensures later { drop (octets_needed self.new.written) out.new ≡ drop (octets_needed self.new.written) out.old }
+        ensures filled { take (octets_for self.new.written) out.new ≡ filled (front out.new self.new.written) }
+        ensures later { drop (octets_for self.new.written) out.new ≡ drop (octets_for self.new.written) out.old }
     {
         let octets = value.to_be_bytes();
         let bits = BitSlice {
@@ -54,8 +54,8 @@ impl BitWriter {
         requires counts { self.old.written + bits.len < 2 ^ 64 }
         ensures written { self.new.written ≡ self.old.written + bits.entry.len }
         ensures bits { front out.new self.new.written ≡ front out.old self.old.written ++ run bits.entry }
-        ensures filled { take (octets_needed self.new.written) out.new ≡ filled (front out.new self.new.written) }
-        ensures later { drop (octets_needed self.new.written) out.new ≡ drop (octets_needed self.new.written) out.old }
+        ensures filled { take (octets_for self.new.written) out.new ≡ filled (front out.new self.new.written) }
+        ensures later { drop (octets_for self.new.written) out.new ≡ drop (octets_for self.new.written) out.old }
     {
         write_at(out, self.written, bits);
         self.written += bits.len;
@@ -64,12 +64,12 @@ impl BitWriter {
     /// Writes zero bits up to a whole octet.
     pub fn fill_octet(&mut self, out: &mut [u8])
         requires fits { self.old.written ≤ 8 * length out.old }
-        requires counts { 8 * octets_needed self.old.written < 2 ^ 64 }
-        ensures written { self.new.written ≡ 8 * octets_needed self.old.written }
+        requires counts { 8 * octets_for self.old.written < 2 ^ 64 }
+        ensures written { self.new.written ≡ 8 * octets_for self.old.written }
         ensures bits { front out.new self.new.written ≡ front out.old self.old.written
             ++ replicate (self.new.written - self.old.written) false }
-        ensures filled { take (octets_needed self.new.written) out.new ≡ filled (front out.new self.new.written) }
-        ensures later { drop (octets_needed self.new.written) out.new ≡ drop (octets_needed self.new.written) out.old }
+        ensures filled { take (octets_for self.new.written) out.new ≡ filled (front out.new self.new.written) }
+        ensures later { drop (octets_for self.new.written) out.new ≡ drop (octets_for self.new.written) out.old }
     {
         let none = BitSlice {
             octets: &[],
@@ -77,7 +77,7 @@ impl BitWriter {
             len: 0,
         };
         write_at(out, self.written, none);
-        self.written = 8 * octets_for(self.written);
+        self.written = 8 * octets_needed(self.written);
     }
 }
 
@@ -85,7 +85,7 @@ impl BitWriter {
 fn write_at(out: &mut [u8], written: usize, bits: BitSlice<'_>)
     requires { written + bits.len ≤ 8 * length out.old }
     ensures { out.new ≡ filled (front out.old written ++ run bits.entry)
-        ++ drop (octets_needed (written + bits.entry.len)) out.old }
+        ++ drop (octets_for (written + bits.entry.len)) out.old }
 {
     are_octets(out);
     let at = written / 8;
@@ -109,9 +109,9 @@ fn write_at(out: &mut [u8], written: usize, bits: BitSlice<'_>)
 fn write_octets(out: &mut [u8], at: usize, bits: BitSlice<'_>)
     requires at { at ≤ length out.old }
     requires fits { 8 * at + bits.len ≤ 8 * length out.old }
-    ensures { out.new ≡ take at out.old ++ filled (run bits.entry) ++ drop (at + octets_needed bits.entry.len) out.old }
+    ensures { out.new ≡ take at out.old ++ filled (run bits.entry) ++ drop (at + octets_for bits.entry.len) out.old }
 {
-    bits.copy_to(&mut out[at..at + octets_for(bits.len)]);
+    bits.copy_to(&mut out[at..at + octets_needed(bits.len)]);
 }
 
 /// The octet of which `begun` bits are kept, `width` bits follow, and the others are 0.
