@@ -148,6 +148,8 @@ fn write_cells<O: Sink>(cells: &[Cell], sink: &mut O) -> Result<(), Failed>
 }
 
 impl<'a, O: Sink> BlockSink for StoreWriter<'a, O> {
+    ghost use Rattle.amr_store.specs.Written.{SameSink, WroteBlock, WrotePart};
+
     ghost codec = { λ w. w.codec };
 
     ghost channels = { λ w. w.channels };
@@ -156,13 +158,11 @@ impl<'a, O: Sink> BlockSink for StoreWriter<'a, O> {
 
     ghost faults = { λ w. O.faults w.sink.now };
 
-    ghost whole = { λ v block w. (w.sink.ghost_name ≡ v.sink.ghost_name) × O.same v.sink.now w.sink.now
-        × Appends (O.got v.sink.now) (O.got w.sink.now) (block_text block) × (O.beside w.sink.now ≡ O.beside v.sink.now) };
+    ghost whole = { λ v block w. WroteBlock O.got O.beside O.same v block w };
 
-    ghost part = { λ v block w. (w.sink.ghost_name ≡ v.sink.ghost_name) × O.same v.sink.now w.sink.now
-        × AppendsFront (O.got v.sink.now) (O.got w.sink.now) (block_text block) × (O.beside w.sink.now ≡ O.beside v.sink.now) };
+    ghost part = { λ v block w. WrotePart O.got O.beside O.same v block w };
 
-    ghost same = { λ v w. (w.sink.ghost_name ≡ v.sink.ghost_name) × O.same v.sink.now w.sink.now };
+    ghost same = { λ v w. SameSink O.same v w };
 
     fn put_block(&mut self, cells: &[Cell]) -> Result<(), Failed> {
         self.stage = Stage::Spent;
