@@ -3,7 +3,6 @@ use Rattle.std.specs.Prelude.{ℕ, nat_lt, List, [], ◌∷◌, length, take, �
 use Rattle.amr_frame.specs.First.{when, first}
 use Rattle.amr_frame.specs.declared.profile.Profile.{Profile}
 use Rattle.spec_packet.specs.Log.{cut}
-use Rattle.spec_record.specs.FirstStage.{built, is_cut_short}
 use Rattle.amr_frame.specs.Frames.{Frame}
 use Rattle.spec_session.specs.Packets.{Packet, packets_of}
 use Rattle.spec_session.specs.Release.{released, released_up_to}
@@ -43,11 +42,10 @@ rest_of limit input = (cut (take limit input)).rest
 
 -- what is written for an input
 abbrev pub output_of : Recording → ℕ → List ℕ → List ℕ
-output_of r limit input = file_of r (built r.profile r.asked r.rules (records_of limit input))
+output_of r limit input = file_of r (records_of limit input)
 
 -- how a recording ends without a fault
 pub data End : Type 0 where
-  NotBuilt : End
   LimitReached : End
   LogCut : (have : ℕ) → End
   Done : End
@@ -56,10 +54,8 @@ abbrev or_done : Option End → End
 or_done None = Done
 or_done (Some end) = end
 
--- the first that holds: a record isn't built yet, the input is longer than the limit, the log is cut inside a
--- record, or all was read
-abbrev pub end_of : Recording → ℕ → List ℕ → End
-end_of r limit input = or_done (first (
-    when (is_cut_short r.profile r.asked r.rules (records_of limit input)) NotBuilt
-    ∷ when (nat_lt limit (length input)) LimitReached
+-- the first that holds: the input is longer than the limit, the log is cut inside a record, or all was read
+abbrev pub end_of : ℕ → List ℕ → End
+end_of limit input = or_done (first (
+    when (nat_lt limit (length input)) LimitReached
     ∷ when (nat_lt 0 (length (rest_of limit input))) (LogCut (length (rest_of limit input))) ∷ []))
