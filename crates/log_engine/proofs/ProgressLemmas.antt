@@ -1,7 +1,7 @@
 -- How a run goes on, turn by turn.
-use Rattle.std.proofs.Common.{◌≡◌, ◌≢◌, ℕ, ◌+◌, ◌≤◌, ◌<◌, List, [], ◌∷◌, ◌++◌, ◌^◌, length, refl, sym, ap, subst, ◌∙◌, arith, append-nil, append_assoc, length-append}
+use Rattle.std.proofs.Common.{◌≡◌, ℕ, ◌+◌, ◌≤◌, ◌<◌, List, [], ◌∷◌, ◌++◌, ◌^◌, length, refl, sym, ap, subst, ◌∙◌, arith, append-nil, append_assoc, length-append}
 use Rattle.std.specs.Prelude.{Option, ◌⊎◌, None, Some}
-use Rattle.std.proofs.Common.{inl, inr, get_or, zero, suc}
+use Rattle.std.proofs.Common.{inl, inr}
 use Rattle.rtp_packet.specs.Reading.{Stops}
 use Rattle.rtp_packet.proofs.Records.{partial_not_whole}
 use Rattle.rtp_packet.specs.Reading.{Exhausts}
@@ -9,15 +9,12 @@ use Rattle.log_engine.specs.Turns.{Went, Turned, TurnFaults}
 use Rattle.log_engine.specs.Progress.{After}
 use Rattle.log_engine.specs.declared.turn.Turn.{Turn}
 use Rattle.log_engine.specs.declared.turn.Turn.TheVariants.{Taken, End, Truncated, OverLimit, ReadFault, WriteFault}
-use Rattle.std.specs.Prelude.{IfSome}
 use Rattle.rtp_packet.specs.declared.log_reader.LogReader.{LogReader}
 use Rattle.rtp_packet.specs.Reading.{rest}
-use Rattle.std.specs.List.{flat_map}
 use Rattle.std.specs.Io.KnownBytes.{Appends, Consumes, Keeps, append_known}
 use Rattle.std.proofs.KnownBytes.{Appends-nil, Appends-trans, Appends-kept, Consumes-trans, Consumes-nil}
 use Rattle.std.proofs.lemmas.Grind.{flat_map-append}
 use Rattle.std.proofs.lemmas.List.{append_cancel_left}
-use Rattle.std.specs.List.{AllByRecursion}
 use Rattle.spec_packet.specs.Log.{framed, log_of, AreRecords, IsPartial}
 use Rattle.rtp_packet.specs.Record.{IsWhole}
 use Rattle.log_engine.specs.Tray.{Grows}
@@ -54,7 +51,7 @@ pub Took-more : (left0 left left' : Option (List ℕ)) (limit : ℕ) (hs ps : Li
 Took-more left0 left left' limit hs ps rest rest' more extra took consumed same each within =
     let before : Consumes left0 left (log_of hs ++ rest) = subst (Consumes left0 left) (append-nil (log_of hs ++ rest)) took.consumed in
     let all : (log_of hs ++ rest) ++ (more ++ extra) ≡ (log_of (hs ++ ps) ++ rest') ++ extra =
-        sym (append_assoc (log_of hs ++ rest) more extra) ∙ ap (λ l. l ++ extra) (moved_rest hs ps rest rest' more same) in
+    sym (append_assoc (log_of hs ++ rest) more extra) ∙ ap (λ l. l ++ extra) (moved_rest hs ps rest rest' more same) in
     record {
       consumed = subst (Consumes left0 left') all (Consumes-trans left0 left left' (log_of hs ++ rest) (more ++ extra) before consumed);
       records = records_append hs ps took.records each;
@@ -135,7 +132,13 @@ pub ready_of : (puts : List (List ℕ) → List ℕ) (stands : List (List ℕ) �
     → stands (done ++ last) → Progress puts limit left left' got g1 w1 (rest reader) [] done last → length (log_of (done ++ last) ++ rest reader) ≡ reader.inlet.taken
     → Keeps (append_known g1 w1) (append_known g2 w2) → Grows g1 g2 → IsWhole (rest reader) ⊎ (w2 ≡ []) → length (rest reader) ≤ 2 ^ 16 + 1 → Ready puts stands limit left left' got g2 w2 reader
 ready_of puts stands limit left left' got g1 g2 w1 w2 reader done last stood p size kept grown (inl whole) small = record {
-  done = done; last = last; stood = stood; progress = Progress-moved puts limit left left' got g1 g2 w1 w2 (rest reader) [] done last p kept grown; size = size; ready = inl whole }
+  done = done;
+  last = last;
+  stood = stood;
+  progress = Progress-moved puts limit left left' got g1 g2 w1 w2 (rest reader) [] done last p kept grown;
+  size = size;
+  ready = inl whole;
+}
 ready_of puts stands limit left left' got g1 g2 w1 w2 reader done last stood p size kept grown (inr none) small =
     let same : done ++ last ≡ (done ++ last) ++ [] = sym (append-nil (done ++ last)) in
     record {
@@ -173,17 +176,20 @@ taken_turn puts stands stands' limit left0 left left' got0 got got' w w' old new
     let joined : hs ++ p ∷ [] ≡ r.done ++ (r.last ++ p ∷ []) = append_assoc r.done r.last (p ∷ []) in
     let size : length (log_of (hs ++ p ∷ []) ++ rest new) ≡ new.inlet.taken = moved_length hs (p ∷ []) (rest old) (rest new) more old.inlet.taken new.inlet.taken same r.size t.2.taken in
     let took : Took left0 left' limit (hs ++ p ∷ []) (rest new) [] = Took-more left0 left left' limit hs (p ∷ []) (rest old) (rest new) more [] r.progress.took
-        (subst (Consumes left left') (sym (append-nil more)) t.3.0) same (one_record p t.3.2) (omega (arith, size, within)) in
+    (subst (Consumes left left') (sym (append-nil more)) t.3.0) same (one_record p t.3.2) (omega (arith, size, within)) in
     let put : Appends got0 (append_known got' w') (puts (hs ++ p ∷ [])) =
-        subst (Appends got0 (append_known got' w')) (sym step.1.2) (Appends-trans got0 (append_known got w) (append_known got' w') (puts hs) step.1.0 r.progress.put step.1.1) in
-    (r.done, r.last ++ p ∷ [], subst stands' joined step.0,
-     record {
-       took = subst (λ h. Took left0 left' limit h (rest new) []) joined took;
-       near = omega (arith, near_more r.last p (rest old) (rest new) more t.3.1 (omega (arith, r.progress.near)) t.3.3 (near_turn old more r.last w r.ready t.2.held));
-       put = subst (λ h. Appends got0 (append_known got' w') (puts h)) joined put;
-       written = written_on got0 got got' (puts r.done) r.progress.written grown;
-     },
-     subst (λ h. length (log_of h ++ rest new) ≡ new.inlet.taken) joined size)
+    subst (Appends got0 (append_known got' w')) (sym step.1.2) (Appends-trans got0 (append_known got w) (append_known got' w') (puts hs) step.1.0 r.progress.put step.1.1) in (
+      r.done,
+      r.last ++ p ∷ [],
+      subst stands' joined step.0,
+      record {
+        took = subst (λ h. Took left0 left' limit h (rest new) []) joined took;
+        near = omega (arith, near_more r.last p (rest old) (rest new) more t.3.1 (omega (arith, r.progress.near)) t.3.3 (near_turn old more r.last w r.ready t.2.held));
+        put = subst (λ h. Appends got0 (append_known got' w') (puts h)) joined put;
+        written = written_on got0 got got' (puts r.done) r.progress.written grown;
+      },
+      subst (λ h. length (log_of h ++ rest new) ≡ new.inlet.taken) joined size,
+    )
 
 -- where a run stands after a write failed
 pub broken_turn : (puts ends : List (List ℕ) → List ℕ) (stands stands' : List (List ℕ) → Type 0) (limit : ℕ) (left0 left left' got0 got got' : Option (List ℕ)) (w w' : List ℕ) (old new : LogReader)
@@ -199,11 +205,11 @@ broken_turn puts ends stands stands' limit left0 left left' got0 got got' w w' o
     let joined : hs ++ p ∷ [] ≡ r.done ++ (r.last ++ p ∷ []) = append_assoc r.done r.last (p ∷ []) in
     let size : length (log_of (hs ++ p ∷ []) ++ rest new) ≡ new.inlet.taken = moved_length hs (p ∷ []) (rest old) (rest new) more old.inlet.taken new.inlet.taken same r.size t.2.taken in
     let took : Took left0 left' limit (hs ++ p ∷ []) (rest new) [] = Took-more left0 left left' limit hs (p ∷ []) (rest old) (rest new) more [] r.progress.took
-        (subst (Consumes left left') (sym (append-nil more)) t.3.0) same (one_record p t.3.2) (omega (arith, size, within)) in
+    (subst (Consumes left left') (sym (append-nil more)) t.3.0) same (one_record p t.3.2) (omega (arith, size, within)) in
     let whole : List ℕ = puts (r.done ++ (r.last ++ p ∷ [])) in
     let put : Appends got0 (append_known got' w') (puts hs ++ part.0) = Appends-trans got0 (append_known got w) (append_known got' w') (puts hs) part.0 r.progress.put part.1 in
     let out = out_within got0 got got' w' (puts r.done) (puts hs ++ part.0) whole r.progress.written.0 r.progress.written.1 r.progress.written.2 grown put
-        (subst (λ h. IsPrefix (puts hs ++ part.0) (puts h)) joined part.2) (grow r.done (r.last ++ p ∷ [])) in
+    (subst (λ h. IsPrefix (puts hs ++ part.0) (puts h)) joined part.2) (grow r.done (r.last ++ p ∷ [])) in
     record {
       done = r.done;
       last = r.last ++ p ∷ [];
@@ -236,16 +242,17 @@ halt_turn puts stands stands' limit left0 left left' got0 got got' w w' more ext
     let hs : List (List ℕ) = r.done ++ r.last in
     let size' = moved_length hs [] (rest old) (rest new) more old.inlet.taken new.inlet.taken stops.0 r.size went.taken in
     let took' = Took-more left0 left left' limit hs [] (rest old) (rest new) more extra r.progress.took took stops.0 tt (omega (arith, size', within)) in
-    let none : w ≡ [] = stopped old more (rest new) r.last w r.ready went.held stops.0 stops.1 in
-    (record {
-       stood = stood hs r.stood;
-       took = subst (λ h. Took left0 left' limit h (rest new) extra) (append-nil hs) took';
-       near = omega (arith, stops.2, small);
-       put = subst (λ o. Appends got0 o (puts hs)) (sym same_got) (all_written got0 got w (puts hs) none r.progress.put);
-       partial = stops.1;
-     },
-     subst (λ h. length (log_of h ++ rest new) ≡ new.inlet.taken) (append-nil hs) size',
-     same_w ∙ none)
+    let none : w ≡ [] = stopped old more (rest new) r.last w r.ready went.held stops.0 stops.1 in (
+      record {
+        stood = stood hs r.stood;
+        took = subst (λ h. Took left0 left' limit h (rest new) extra) (append-nil hs) took';
+        near = omega (arith, stops.2, small);
+        put = subst (λ o. Appends got0 o (puts hs)) (sym same_got) (all_written got0 got w (puts hs) none r.progress.put);
+        partial = stops.1;
+      },
+      subst (λ h. length (log_of h ++ rest new) ≡ new.inlet.taken) (append-nil hs) size',
+      same_w ∙ none,
+    )
 
 pub after_turn : (puts ends : List (List ℕ) → List ℕ) (stands stands' : List (List ℕ) → Type 0) (limit : ℕ) (left0 left left' got0 got got' : Option (List ℕ)) (w w' : List ℕ) (old new : LogReader) (turn : Turn)
     → ((hs more : List (List ℕ)) → IsPrefix (puts hs) (puts (hs ++ more)))
@@ -361,7 +368,7 @@ closed_broken puts ends puts' ends' stands limit left left' got0 got got' w w' r
     let before : Appends got0 (append_known got w) (puts packets) = subst (λ o. Appends got0 o (puts packets)) (sym whole) halt.put in
     let after = Appends-trans got0 (append_known got w) (append_known got' w') (puts packets) part.0 before part.1 in
     let within : IsPrefix (puts packets ++ part.0) (ends packets) =
-        subst (λ (f : List (List ℕ) → List ℕ). IsPrefix (f packets ++ part.0) (ends packets)) same_puts (subst (λ (f : List (List ℕ) → List ℕ). IsPrefix (puts' packets ++ part.0) (f packets)) same_ends part.2) in
+    subst (λ (f : List (List ℕ) → List ℕ). IsPrefix (f packets ++ part.0) (ends packets)) same_puts (subst (λ (f : List (List ℕ) → List ℕ). IsPrefix (puts' packets ++ part.0) (f packets)) same_ends part.2) in
     let all : packets ++ [] ≡ packets = append-nil packets in
     let base : IsPrefix (puts packets) (ends packets) = subst (λ hs. IsPrefix (puts packets) (ends hs)) all (grow packets []) in
     let out = out_within got0 got got' w' (puts packets) (puts packets ++ part.0) (ends packets) (puts packets) halt.put (IsPrefix-refl (puts packets)) grown after within base in

@@ -1,5 +1,5 @@
 -- What a run did, in terms of a log that is told.
-use Rattle.std.proofs.Common.{◌≡◌, ◌≢◌, ℕ, zero, suc, ◌+◌, ◌-◌, ◌≤◌, ◌<◌, ◌^◌, true, false, Bool, cond, List, [], ◌∷◌, ◌++◌, length, take, drop, refl, sym, ap, subst, ◌∙◌, arith, inl, inr, append-nil, append_assoc, length-append, take-append-drop}
+use Rattle.std.proofs.Common.{◌≡◌, ◌≢◌, ℕ, ◌+◌, ◌-◌, ◌≤◌, ◌<◌, ◌^◌, true, false, cond, List, [], ◌∷◌, ◌++◌, length, take, drop, refl, sym, ap, subst, ◌∙◌, arith, inl, inr, append-nil, append_assoc, length-append, take-append-drop}
 use Rattle.std.specs.Prelude.{Option, None, Some, nat_lt, IfSome, ◌⊎◌}
 use Rattle.std.specs.List.{fold}
 use Rattle.std.proofs.Math.Seq.{take-append_seam, take-append-add}
@@ -8,7 +8,7 @@ use Rattle.std.proofs.lemmas.List.Sums.{fold-append}
 use Rattle.std.proofs.lemmas.List.Concat.{flat_map-append}
 use Rattle.std.proofs.lemmas.Bool.{le-ltb, lt-ltb}
 use Rattle.std.specs.Io.KnownBytes.{Appends, Consumes}
-use Rattle.spec_packet.specs.Log.{Cut, IsCut, IsPartial, AreRecords, framed, log_of, cut, with_octet, is_whole}
+use Rattle.spec_packet.specs.Log.{Cut, IsPartial, AreRecords, framed, log_of, cut, with_octet, is_whole}
 use Rattle.session_laws.proofs.Cut.{cut_one}
 use Rattle.log_engine.specs.Run.{Ran, Took, Ended, Passed, Broke, IsPrefix}
 use Rattle.log_engine.specs.Told.{records_within, rest_end, end_of, Told, BrokeReading, BrokeWriting}
@@ -117,7 +117,7 @@ read_front puts ends limit all left hs rest extra grow took =
     let n : ℕ = limit - length read in
     let count : limit ≡ length read + n = omega (arith, took.within) in
     let front : take limit all ≡ log_of hs ++ (rest ++ take n (extra ++ left)) =
-        ap (take limit) same ∙ ap (λ m. take m (read ++ (extra ++ left))) count ∙ take-append-add read (extra ++ left) n ∙ append_assoc (log_of hs) rest (take n (extra ++ left)) in
+    ap (take limit) same ∙ ap (λ m. take m (read ++ (extra ++ left))) count ∙ take-append-add read (extra ++ left) n ∙ append_assoc (log_of hs) rest (take n (extra ++ left)) in
     let start = log_front hs (rest ++ take n (extra ++ left)) took.records in
     let whole = grow hs start.0 in
     let is : ends (hs ++ start.0) ≡ ends (records_within limit all) = ap ends (sym (ap (λ l. (cut l).packets) front ∙ start.1)) in
@@ -171,17 +171,17 @@ broke_near puts ends limit left left' got got' grow b read is many =
     let n : ℕ = length read - (2 ^ 16 + 1) in
     let behind : List ℕ = (log_of b.last ++ b.rest) ++ b.extra in
     let split : read ≡ log_of b.done ++ behind = is ∙ ap (λ l. (l ++ b.rest) ++ b.extra) (flat_map-append framed b.done b.last)
-        ∙ ap (λ l. l ++ b.extra) (append_assoc (log_of b.done) (log_of b.last) b.rest) ∙ append_assoc (log_of b.done) (log_of b.last ++ b.rest) b.extra in
+    ∙ ap (λ l. l ++ b.extra) (append_assoc (log_of b.done) (log_of b.last) b.rest) ∙ append_assoc (log_of b.done) (log_of b.last ++ b.rest) b.extra in
     let size : length read ≡ length (log_of b.done) + (length (log_of b.last ++ b.rest) + length b.extra) =
-        ap length split ∙ length-append (log_of b.done) behind ∙ ap (λ m. length (log_of b.done) + m) (length-append (log_of b.last ++ b.rest) b.extra) in
+    ap length split ∙ length-append (log_of b.done) behind ∙ ap (λ m. length (log_of b.done) + m) (length-append (log_of b.last ++ b.rest) b.extra) in
     let fits : n ≤ length (log_of b.done) = omega (arith, size, b.near) in
     let front : take n read ≡ take n (log_of b.done) = ap (take n) split ∙ take-append-le n (log_of b.done) behind fits in
     let part = cut_front (take n (log_of b.done)) (drop n (log_of b.done)) in
     let whole : b.done ≡ (cut (take n (log_of b.done))).packets ++ part.0 =
-        sym (cut_log b.done (front_records b.done b.last b.took.records)) ∙ ap (λ l. (cut l).packets) (sym (take-append-drop n (log_of b.done))) ∙ part.1 in
+    sym (cut_log b.done (front_records b.done b.last b.took.records)) ∙ ap (λ l. (cut l).packets) (sym (take-append-drop n (log_of b.done))) ∙ part.1 in
     let some : b.done ≢ [] = λ none. absurd (omega (arith, fits, many, ap (λ hs. length (log_of hs)) none)) in
     let first : IsPrefix (puts (cut (take n (log_of b.done))).packets) (puts b.done) =
-        subst (λ hs. IsPrefix (puts (cut (take n (log_of b.done))).packets) (puts hs)) (sym whole) (grow (cut (take n (log_of b.done))).packets part.0) in
+    subst (λ hs. IsPrefix (puts (cut (take n (log_of b.done))).packets) (puts hs)) (sym whole) (grow (cut (take n (log_of b.done))).packets part.0) in
     let there = through (puts (cut (take n (log_of b.done))).packets) (puts b.done) b.out first (b.most some) in
     subst (λ l. IsPrefix (puts (cut l).packets) b.out) (sym front) there
 

@@ -1,5 +1,5 @@
 -- What a reader gave.
-use Rattle.std.proofs.Common.{◌≡◌, ℕ, ◌+◌, List, [], ◌∷◌, ◌++◌, refl, subst, Result, Ok, Err}
+use Rattle.std.proofs.Common.{◌≡◌, ℕ, List, subst, Result}
 use Rattle.std.specs.Prelude.{Option}
 use Rattle.amr_io.specs.declared.source.Failed.{Failed}
 use Rattle.rtp_packet.specs.declared.log_reader.LogReader.{LogReader}

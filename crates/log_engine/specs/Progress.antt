@@ -1,10 +1,9 @@
 -- What holds between two records of a run. It is ours.
-use Rattle.std.specs.Prelude.{◌≡◌, ℕ, ◌+◌, ◌≤◌, ◌<◌, ◌⊎◌, List, [], ◌∷◌, ◌++◌, ◌^◌, length, Option}
+use Rattle.std.specs.Prelude.{◌≡◌, ℕ, ◌+◌, ◌≤◌, ◌<◌, List, [], ◌∷◌, ◌++◌, ◌^◌, length, Option}
 use Rattle.std.specs.Io.KnownBytes.{Appends, append_known}
 use Rattle.spec_packet.specs.Log.{log_of, IsPartial}
-use Rattle.rtp_packet.specs.Record.{IsWhole}
 use Rattle.rtp_packet.specs.Reading.{Exhausts}
-use Rattle.log_engine.specs.Run.{IsPrefix, Took, Ended, Passed, Broke}
+use Rattle.log_engine.specs.Run.{IsPrefix, Took, Broke}
 use Rattle.log_engine.specs.declared.turn.Turn.{Turn}
 use Rattle.log_engine.specs.declared.turn.Turn.TheVariants.{Taken, End, Truncated, OverLimit, ReadFault, WriteFault}
 

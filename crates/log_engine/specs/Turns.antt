@@ -1,8 +1,7 @@
 -- What came of a turn of a run. It is ours.
-use Rattle.std.specs.Prelude.{◌≡◌, ℕ, ◌+◌, ◌≤◌, ◌<◌, List, [], ◌∷◌, ◌++◌, length, Option, Result, Ok, Err}
-use Rattle.std.specs.Io.KnownBytes.{Keeps, Consumes, append_known}
+use Rattle.std.specs.Prelude.{◌≡◌, ℕ, ◌+◌, ◌<◌, List, [], ◌∷◌, ◌++◌, length, Option}
+use Rattle.std.specs.Io.KnownBytes.{Consumes, append_known}
 use Rattle.amr_io.specs.Fault.{Rose}
-use Rattle.amr_io.specs.declared.source.Failed.{Failed}
 use Rattle.rtp_packet.specs.declared.log_reader.LogReader.{LogReader}
 use Rattle.rtp_packet.specs.Lent.{Brings}
 use Rattle.rtp_packet.specs.Reading.{rest, taken_of, limit_of, Exhausts, Stops}

@@ -32,9 +32,11 @@ impl Model for Gather {
 }
 
 impl Gather {
-    /// Room for so many octets.
+    /// Room for `room` octets, of which none waits.
+    ///
+    /// Want of memory is the only error.
     pub fn create(alloc: Global, room: usize) -> Result<Gather, AllocError>
-        ensures { IfOk result (λ s. s ≡ record { waiting = []; used = 0; room = room }) }
+        ensures fresh { IfOk result (λ s. s ≡ record { waiting = []; used = 0; room = room }) }
     {
         let octets = Vec::with_capacity(alloc, room)?;
         Ok(Gather {
@@ -93,7 +95,9 @@ impl Gather {
         self.sent = 0;
     }
 
-    /// Writes the octets that wait.
+    /// Writes the octets that wait to `output`, and keeps what it got in all, that which waits included.
+    ///
+    /// `Failed` comes only where the output's faults rose.
     pub fn flush<O: Sink>(&mut self, output: &mut O) -> Result<(), Failed>
         ensures kept { Keeps (append_known (O.got output.old) self.old.waiting) (append_known (O.got output.new) self.new.waiting) }
         ensures empty { OnOk result ((self.new.waiting ≡ []) × (self.new.used ≡ 0)) }

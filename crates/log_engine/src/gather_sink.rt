@@ -18,6 +18,7 @@ pub struct GatherSink<'a, O> {
 }
 
 impl<'a, O: Sink> GatherSink<'a, O> {
+    /// A sink over `output`, whose octets wait in `gather` until they are written.
     pub fn new(output: &'a mut O, gather: &'a mut Gather) -> GatherSink<'a, O>
         ensures same_reference { result.output.ghost_name ≡ output.entry.ghost_name }
         ensures now { result.output.now ≡ output.old }
@@ -27,7 +28,9 @@ impl<'a, O: Sink> GatherSink<'a, O> {
         GatherSink { output, gather }
     }
 
-    /// Writes all that waits.
+    /// Writes all that waits, and keeps what was put out in all, that which waits included, whatever it answers.
+    ///
+    /// `Failed` comes only where the output's faults rose.
     pub fn flush(&mut self) -> Result<(), Failed>
         ensures kept { Keeps (append_known (O.got self.old.output.now) self.old.gather.now.waiting) (append_known (O.got self.new.output.now) self.new.gather.now.waiting) }
         ensures empty { OnOk result ((self.new.gather.now.waiting ≡ []) × (self.new.gather.now.used ≡ 0)) }
@@ -50,6 +53,7 @@ impl<'a, O: Sink> Sink for GatherSink<'a, O> {
 
     ghost same = { λ s t. (t.output.ghost_name ≡ s.output.ghost_name) × O.same s.output.now t.output.now × Grows (O.got s.output.now) (O.got t.output.now) };
 
+    /// Takes all of `bytes` where there is room for them once what waits is written, and else what the output takes.
     fn write(&mut self, bytes: &[u8]) -> Result<usize, Failed> {
         if self.gather.free() < bytes.len() {
             self.flush()?;

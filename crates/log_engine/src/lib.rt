@@ -15,3 +15,6 @@ pub use gather_sink::GatherSink;
 pub use log_end::LogEnd;
 pub use run::drive;
 pub use taker::Taker;
+
+#[cfg(test)]
+mod tests;

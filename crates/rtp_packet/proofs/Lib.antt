@@ -1,2 +1,3 @@
 pub mod Records
 pub mod Shown
+pub mod Causes

@@ -2,9 +2,11 @@
 #![tactic(auto)]
 
 mod head;
+mod law;
 mod log_reader;
 mod next;
 
+pub use law::octets_tell_one_answer;
 pub use log_reader::LogReader;
 pub use next::Next;
 

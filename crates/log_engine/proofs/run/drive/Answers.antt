@@ -1,4 +1,4 @@
-use Rattle.std.proofs.Common.{◌≡◌, subst, ℕ, List}
+use Rattle.std.proofs.Common.{subst}
 use Rattle.log_engine.specs.Run.{Ran}
 use Rattle.log_engine.specs.declared.log_end.LogEnd.{LogEnd}
 use Rattle.log_engine.proofs.ToldLemmas.{told_clean, told_end, told_read, told_write}

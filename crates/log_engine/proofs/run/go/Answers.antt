@@ -1,6 +1,5 @@
-use Rattle.std.proofs.Common.{◌≡◌, ◌+◌, ◌≤◌, ◌<◌, ◌^◌, ℕ, List, ◌++◌, [], ◌∷◌, length, refl, arith, length-append, length-drop, ap, sym, subst, ◌∙◌}
+use Rattle.std.proofs.Common.{◌≡◌, ◌+◌, ◌≤◌, ◌^◌, ℕ, List, [], length, refl, arith, length-drop, ap, sym, subst, ◌∙◌}
 use Rattle.rtp_packet.specs.Reading.{rest}
-use Rattle.spec_packet.specs.Log.{log_of}
 use Rattle.log_engine.specs.Turns.{Turned}
 use Rattle.log_engine.specs.declared.turn.Turn.TheVariants.{Taken}
 use Rattle.log_engine.proofs.ProgressLemmas.{ready_of, begin_broken, way_broken, Progress-first, taken_turn, after_turn, faults_from, turn_size, limit_kept}
@@ -18,7 +17,7 @@ pub records-init : goal.records-init
 records-init g c =
     let began = c.in_default.ensures in
     let first = Progress-first (g.T.Taker.puts c.args.taker.now) c.args.reader.now.inlet.limit (g.I.Source.left c.args.input.now) (g.O.Sink.got c.args.sink.now.output.now) (g.O.Sink.got c.begin.new.sink.output.now)
-        c.args.sink.now.gather.now.waiting c.begin.new.sink.gather.now.waiting (rest c.args.reader.now) c.requires.empty began.done.2 c.requires.fresh.2 began.done.1 in
+    c.args.sink.now.gather.now.waiting c.begin.new.sink.gather.now.waiting (rest c.args.reader.now) c.requires.empty began.done.2 c.requires.fresh.2 began.done.1 in
     record {
       still_open = c.requires.fresh.0;
       limit = refl;

@@ -17,7 +17,7 @@ invariant-records g l = record {
   same : g.O.Sink.same l.fn.sink.output.now l.sink.output.now;
   progress : (done : List (List ℕ)) × (last : List (List ℕ)) × g.T.Taker.stands l.taker (done ++ last)
       × Progress (g.T.Taker.puts l.fn.taker) l.fn.reader.inlet.limit (g.I.Source.left l.fn.input) (g.I.Source.left l.input)
-        (g.O.Sink.got l.fn.sink.output.now) (g.O.Sink.got l.sink.output.now) l.sink.gather.now.waiting (rest l.reader) [] done last
+      (g.O.Sink.got l.fn.sink.output.now) (g.O.Sink.got l.sink.output.now) l.sink.gather.now.waiting (rest l.reader) [] done last
       × (length (log_of (done ++ last) ++ rest l.reader) ≡ l.reader.inlet.taken);
 }
 

@@ -1,5 +1,4 @@
-use Rattle.std.proofs.Common.{◌≡◌, refl, ap, ◌∙◌, Ok, Err, sym, [], ◌∷◌, ◌++◌}
-use Rattle.rtp_packet.specs.declared.next.Next.{Next}
+use Rattle.std.proofs.Common.{refl, ap, ◌∙◌, Ok, Err, []}
 use Rattle.rtp_packet.specs.declared.next.Next.TheVariants.{Packet, Null, End, Truncated, OverLimit}
 use Rattle.log_engine.proofs.TurnLemmas.{went_of, gives_at}
 use Rattle.log_engine.proofs.turns.take_next.Goals as goal

@@ -1,5 +1,5 @@
-use Rattle.std.proofs.Common.{◌≡◌, ◌++◌, take, drop, ap, sym, ◌∙◌, take-append-drop}
-use Rattle.std.proofs.KnownBytes.{Keeps-trans, append_known-moved, Appends-trans}
+use Rattle.std.proofs.Common.{◌≡◌, ◌++◌, take, ap, sym, ◌∙◌, take-append-drop}
+use Rattle.std.proofs.KnownBytes.{Keeps-trans, append_known-moved}
 use Rattle.log_engine.proofs.GrowsLemmas.{Grows-through}
 use Rattle.log_engine.proofs.gather.Gather.flush.Goals as goal
 
@@ -10,7 +10,7 @@ sending-preserved g c =
     let passed = c.pass.ensures in
     let n = c.in_ok-count.count in
     let split : c.sending.self.waiting ≡ take n c.sending.self.waiting ++ c.pass.new.self.waiting =
-        sym (take-append-drop n c.sending.self.waiting) ∙ ap (λ l. take n c.sending.self.waiting ++ l) (sym (ap (λ t. t.waiting) passed)) in
+    sym (take-append-drop n c.sending.self.waiting) ∙ ap (λ l. take n c.sending.self.waiting ++ l) (sym (ap (λ t. t.waiting) passed)) in
     record {
       kept = Keeps-trans _ _ _ before.kept (append_known-moved _ _ _ _ _ wrote split);
       room = ap (λ t. t.room) passed ∙ before.room;
