@@ -1,13 +1,13 @@
 -- When a fill of an open inlet gives each of its answers, where the source tells its octets.
-use Rattle.std.proofs.Common.{◌≡◌, ◌≢◌, ◌↔◌, ℕ, ◌+◌, ◌≤◌, ◌<◌, List, [], ◌∷◌, ◌++◌, refl, length, arith, length-append, ap, ◌∙◌, sym}
+use Rattle.std.proofs.Common.{◌≡◌, ◌≢◌, ℕ, List, [], refl, length, arith, length-append, ap, ◌∙◌, sym}
 use Rattle.std.specs.Prelude.{Option, Some, None, Result, Ok, Err}
 use Rattle.amr_io.specs.declared.gate.Filled.{Filled}
 use Rattle.amr_io.specs.declared.gate.Filled.TheVariants.{More, End, OverLimit}
 use Rattle.amr_io.specs.declared.source.Failed.{Failed}
-use Rattle.amr_io.specs.Inlet.{Tank, Fills, ComesExactly}
+use Rattle.amr_io.specs.Inlet.{InletState, Fills, ComesExactly}
 
 -- the end comes exactly where none is left
-pub fills_end : (left left' : Option (List ℕ)) (old new : Tank) (r : Result Filled Failed) → Fills left left' old new r
+pub fills_end : (left left' : Option (List ℕ)) (old new : InletState) (r : Result Filled Failed) → Fills left left' old new r
     → ComesExactly left r End (λ octets. octets ≡ [])
 fills_end None left' old new r f = tt
 fills_end (Some xs) left' old new (Err e) f = tt
@@ -18,7 +18,7 @@ fills_end (Some xs) None old new (Ok OverLimit) f = absurd f.2
 fills_end (Some xs) (Some ys) old new (Ok OverLimit) f = (λ e. cc, λ e. cc)
 
 -- one octet past the limit comes exactly where the limit is reached and one is left
-pub fills_over : (left left' : Option (List ℕ)) (old new : Tank) (r : Result Filled Failed) → Fills left left' old new r
+pub fills_over : (left left' : Option (List ℕ)) (old new : InletState) (r : Result Filled Failed) → Fills left left' old new r
     → ComesExactly left r OverLimit (λ octets. (old.taken ≡ old.limit) × (octets ≢ []))
 fills_over None left' old new r f = tt
 fills_over (Some xs) left' old new (Err e) f = tt

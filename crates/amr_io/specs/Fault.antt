@@ -1,7 +1,7 @@
--- Counts of faults: what a failed call does to one. The count is ours: std's readers and writers have none.
+-- Counts of faults, and what a failed call does to one. Ours: std's readers and writers count none.
 use Rattle.std.specs.Prelude.{◌≡◌, ℕ, ◌-◌, ◌^◌, ◌<◌, ◌≤◌, ◌⊎◌, MatchResult, Result}
 
--- the count rose: it is greater, or stands at 2 ^ 64 - 1, past which it does not go
+-- the count rose: it is greater than before, or stands at 2 ^ 64 - 1, past which it does not go
 abbrev pub Rose : ℕ → ℕ → Type 0
 Rose before after = (before ≤ after) × (after ≤ 2 ^ 64 - 1) × ((before < after) ⊎ (after ≡ 2 ^ 64 - 1))
 

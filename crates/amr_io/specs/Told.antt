@@ -1,4 +1,4 @@
--- Octets told: what a read takes of those left in a source, and what a write adds to those that a sink got.
+-- Octets told: what a read takes of those left in a source, what a write adds to those a sink got.
 use Rattle.std.specs.Prelude.{◌≡◌, ℕ, ◌≤◌, ◌<◌, List, [], length, take, ⊤, None, Some, MatchResult, ◌↔◌, Option, Result}
 use Rattle.std.specs.Io.KnownBytes.{Keeps, Appends, Consumes}
 
@@ -7,13 +7,18 @@ abbrev pub EndsAt : Option (List ℕ) → ℕ → Type 0
 EndsAt None n = ⊤
 EndsAt (Some xs) n = (n ≡ 0) ↔ (xs ≡ [])
 
--- a read: the first n octets left stand at the front of the buffer and are gone; one that fails takes nothing
+-- a read: the first n octets left stand at the front of the buffer and are gone;
+-- one that fails takes nothing
 abbrev pub Reads : {E : Type 0} → Option (List ℕ) → Option (List ℕ) → Result ℕ E → List ℕ → Type 0
-Reads left left' r buf = MatchResult r (λ n. (n ≤ length buf) × Consumes left left' (take n buf) × EndsAt left n) (λ _. Keeps left left')
+Reads left left' r buf = MatchResult r
+    (λ n. (n ≤ length buf) × Consumes left left' (take n buf) × EndsAt left n)
+    (λ _. Keeps left left')
 
 -- a write: the first n octets, at least one, were added; one that fails adds nothing
 abbrev pub Writes : {E : Type 0} → Option (List ℕ) → Option (List ℕ) → Result ℕ E → List ℕ → Type 0
-Writes got got' r bytes = MatchResult r (λ n. (0 < n) × (n ≤ length bytes) × Appends got got' (take n bytes)) (λ _. Keeps got got')
+Writes got got' r bytes = MatchResult r
+    (λ n. (0 < n) × (n ≤ length bytes) × Appends got got' (take n bytes))
+    (λ _. Keeps got got')
 
 -- a proper prefix of the octets was added
 abbrev pub AppendsPart : Option (List ℕ) → Option (List ℕ) → List ℕ → Type 0

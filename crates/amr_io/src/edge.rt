@@ -58,7 +58,8 @@ impl<R: Read> Source for ReadSource<R> {
 
 /// A sink over a writer of std. It tells what the writer tells.
 ///
-/// Each `Err` of the writer, of any kind, and each write that takes none of a piece counts as one fault and is not tried again.
+/// Each `Err` of the writer, of any kind, and each write that takes none of a piece counts as one fault and is not tried
+/// again. Nothing is flushed, so no buffering writer belongs under it.
 #[derive(Drop)]
 pub struct WriteSink<W> {
     inner: W,

@@ -23,9 +23,9 @@ pub struct Inlet {
 
 impl Model for Inlet {
     ghost use Rattle.std.specs.Prelude.{◌≤◌, vec_len, slice_range};
-    ghost use Rattle.amr_io.specs.Inlet.{Tank};
+    ghost use Rattle.amr_io.specs.Inlet.{InletState};
 
-    ghost Value = { Tank };
+    ghost Value = { InletState };
 
     ghost view = { λ s. record {
       held = slice_range s.room.items s.start s.end;
@@ -91,9 +91,10 @@ impl Inlet {
 
     /// Makes one read for more octets, of at most the free room and at most what the limit still allows.
     ///
-    /// `More` says how many were appended to those held. `End` comes exactly where the read gave none. Where the limit is reached,
-    /// one octet is read instead, and `OverLimit` comes where there is one. After `End` and `OverLimit` each further call gives the
-    /// same answer without a read. `Failed` comes only where the source's faults rose: the inlet is then spent.
+    /// `More` says how many were appended to those held. `End` comes exactly where the read gave none. Where the limit is
+    /// reached, one octet is read instead, and `OverLimit` comes where there is one. After `End` and `OverLimit` each further
+    /// call gives the same answer without a read. `Failed` comes only where the source's faults rose: what is held and taken
+    /// stays, and the inlet is spent.
     #[tactic(auto, using(crate::proofs::Filling::fills_end, crate::proofs::Filling::fills_over))]
     pub fn fill<S: Source>(&mut self, source: &mut S) -> Result<Filled, Failed>
         requires usable { self.old.gate ≢ Gate.Spent }
@@ -160,13 +161,13 @@ impl Inlet {
     {
         let mut octet = [0u8; 1];
         match source.read(&mut octet) {
-            Ok(0) => {
-                self.gate = Gate::End;
-                Ok(Filled::End)
-            }
-            Ok(_) => {
+            Ok(count) if count > 0 => {
                 self.gate = Gate::OverLimit;
                 Ok(Filled::OverLimit)
+            }
+            Ok(_) => {
+                self.gate = Gate::End;
+                Ok(Filled::End)
             }
             Err(failed) => {
                 self.gate = Gate::Spent;

@@ -1,5 +1,5 @@
-//! The outside as every layer above sees it: sources that octets come from, sinks that they go to, a count of faults in each,
-//! and an inlet that holds what came until it is used.
+//! The outside as every layer above sees it: sources that octets come from, sinks that they go to, a count of faults in
+//! each, and an inlet that holds what came until it is used.
 #![tactic(auto)]
 
 mod edge;

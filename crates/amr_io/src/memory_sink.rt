@@ -2,7 +2,7 @@
 ghost use Rattle.std.specs.Prelude.{◌≡◌, ◌+◌, ◌-◌, ◌^◌, ◌<◌, ◌≤◌, ◌↔◌, ◌⊎◌, [], length, min, IfOk, IsErr, OnErr, Contains, Some, vec_len, vec_capacity};
 ghost use Rattle.amr_io.specs.Fault.{HasCause};
 ghost use Rattle.amr_io.specs.Told.{Writes};
-ghost use Rattle.amr_io.specs.Memory.{Store};
+ghost use Rattle.amr_io.specs.Memory.{MemorySinkState};
 
 use crate::memory_source::is_failing;
 use crate::sink::Sink;
@@ -22,7 +22,7 @@ pub struct MemorySink {
 }
 
 impl Model for MemorySink {
-    ghost Value = { Store };
+    ghost Value = { MemorySinkState };
 
     ghost view = { λ s. record {
       octets = s.octets.items;
@@ -39,8 +39,8 @@ impl Model for MemorySink {
 impl MemorySink {
     /// A sink with room for `room` octets, of which a write takes at most `cut`, with no octet and no fault.
     ///
-    /// The write calls are numbered from 0. A call whose number stands in `failing`, or that finds no room left, fails, and no other does.
-    /// Want of memory is the only error.
+    /// The write calls are numbered from 0. A call whose number stands in `failing`, or that finds no room left, fails, and
+    /// no other does. Want of memory is the only error.
     pub fn create(
         alloc: Global,
         room: usize,
@@ -80,8 +80,8 @@ impl Sink for MemorySink {
 
     ghost same = { λ _ _. Unit {0} };
 
-    /// Takes all of `bytes`, but at most `cut` and what is left of the room, or fails where this call's number stands in `failing`
-    /// or no room is left.
+    /// Takes all of `bytes`, but at most `cut` and what is left of the room, or fails where this call's number stands in
+    /// `failing` or no room is left.
     fn write(&mut self, bytes: &[u8]) -> Result<usize, Failed>
         requires some { 0 < length bytes.now }
 

@@ -2,7 +2,7 @@
 ghost use Rattle.std.specs.Prelude.{◌≡◌, ◌+◌, ◌-◌, ◌^◌, ◌<◌, ◌≤◌, ◌↔◌, length, min, drop, IfOk, IsTrue, IsErr, OnErr, Contains, Some, vec_len};
 ghost use Rattle.amr_io.specs.Fault.{HasCause};
 ghost use Rattle.amr_io.specs.Told.{Reads};
-ghost use Rattle.amr_io.specs.Memory.{Feed};
+ghost use Rattle.amr_io.specs.Memory.{MemorySourceState};
 
 use crate::source::{Failed, Source};
 use std::alloc::{AllocError, Global};
@@ -20,7 +20,7 @@ pub struct MemorySource {
 }
 
 impl Model for MemorySource {
-    ghost Value = { Feed };
+    ghost Value = { MemorySourceState };
 
     ghost view = { λ s. record {
       octets = drop s.read s.octets.items;
@@ -73,7 +73,8 @@ impl Source for MemorySource {
 
     ghost faults = { λ s. s.faults };
 
-    /// Gives as many octets as are left, at most `cut` and the length of `buf`, or fails where this call's number stands in `failing`.
+    /// Gives as many octets as are left, at most `cut` and the length of `buf`, or fails where this call's number stands in
+    /// `failing`.
     fn read(&mut self, buf: &mut [u8]) -> Result<usize, Failed>
         requires room { 0 < length buf.old }
 

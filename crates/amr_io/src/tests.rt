@@ -44,10 +44,7 @@ fn read_some<S: Source>(source: &mut S, buf: &mut [u8; 4]) -> Result<usize, Fail
 }
 
 // Reads up to four octets and appends them to those given before. A failure is `None`.
-fn read_onto(
-    source: &mut MemorySource,
-    given: &mut Vec<u8>,
-) -> Result<Option<usize>, AllocError> {
+fn read_onto(source: &mut MemorySource, given: &mut Vec<u8>) -> Result<Option<usize>, AllocError> {
     let mut buf = [0u8; 4];
     let Ok(count) = source.read(&mut buf) else {
         return Ok(None);
@@ -144,20 +141,45 @@ fn an_inlet_stops_at_its_limit_at_the_end_and_at_a_fault(rt: HostRuntime) -> Res
     let failed = Err(Failed);
     // The octets, the cut and the calls that fail of the source, the limit, the answers, and what is then held.
     // Where the end or the limit has shown, the next call of the source would fail, if it were made.
-    let rows: [(&[u8], usize, &[u64], u64, [Result<Filled, Failed>; 4], &[u8]); 8] = [
-        (b"abcdef", 3, &[3], 4, [more(3), more(1), over, over], b"abcd"),
+    let rows: [(
+        &[u8],
+        usize,
+        &[u64],
+        u64,
+        [Result<Filled, Failed>; 4],
+        &[u8],
+    ); 8] = [
+        (
+            b"abcdef",
+            3,
+            &[3],
+            4,
+            [more(3), more(1), over, over],
+            b"abcd",
+        ),
         (b"abcde", 9, &[2], 4, [more(4), over, over, over], b"abcd"),
         (b"abcd", 2, &[3], 4, [more(2), more(2), end, end], b"abcd"),
         (b"abc", 9, &[2], 9, [more(3), end, end, end], b"abc"),
         (b"", 1, &[1], 1, [end, end, end, end], b""),
         (b"abcd", 1, &[1], 9, [more(1), failed, failed, failed], b"a"),
         (b"abc", 9, &[1], 2, [more(2), failed, failed, failed], b"ab"),
-        (b"abcdefghij", 5, &[], 99, [more(5), more(3), failed, failed], b"abcdefgh"),
+        (
+            b"abcdefghij",
+            5,
+            &[],
+            99,
+            [more(5), more(3), failed, failed],
+            b"abcdefgh",
+        ),
     ];
     for (octets, cut, failing, limit, wanted, held) in rows {
         let mut source = MemorySource::create(rt.alloc(), octets, cut.max(1), failing)?;
         let mut inlet = Inlet::create(rt.alloc(), 8, limit.max(1))?;
-        assert_eq!(rt; four_fills(&mut source, &mut inlet), wanted, "at limit {limit}");
+        assert_eq!(rt;
+            four_fills(&mut source, &mut inlet),
+            wanted,
+            "at limit {limit}"
+        );
         assert_eq!(rt; inlet.held(), held, "at limit {limit}");
         assert_eq!(rt; inlet.taken(), held.len() as u64, "at limit {limit}");
     }

@@ -1,0 +1,17 @@
+pub mod Accepted
+pub mod Division
+pub mod EachFormat
+pub mod Entries
+pub mod Formats
+pub mod InGrammar
+pub mod Marks
+pub mod OneAligned
+pub mod OnePacked
+pub mod OneValue
+pub mod Places
+pub mod Ranges
+pub mod Ranks
+pub mod SameTables
+pub mod Seeing
+pub mod Shapes
+pub mod Whole
