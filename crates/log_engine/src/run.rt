@@ -1,5 +1,5 @@
 // A run over the records of a log.
-ghost use Rattle.std.specs.Prelude.{◌≡◌, ◌≢◌, ℕ, ◌+◌, ◌-◌, ◌≤◌, ◌<◌, ◌⊎◌, List, [], ◌∷◌, ◌++◌, length, Some, IfSome};
+ghost use Rattle.std.specs.Prelude.{◌≡◌, ◌≢◌, ℕ, ◌+◌, ◌-◌, ◌^◌, ◌≤◌, ◌<◌, ◌⊎◌, List, [], ◌∷◌, ◌++◌, length, Some, IfSome};
 ghost use Rattle.rtp_packet.specs.Reading.{rest, limit_of, IsFresh};
 ghost use Rattle.log_engine.specs.Run.{Ran, FaultsOf};
 ghost use Rattle.log_engine.specs.Turns.{TurnFaults};
@@ -22,6 +22,7 @@ fn go<I: Source, O: Sink, T: Taker>(
     sink: &mut GatherSink<'_, O>,
 ) -> Turn
     requires fresh { IsFresh reader.old }
+    requires limit { limit_of reader.old ≤ 2 ^ 40 }
     requires empty { sink.old.gather.now.waiting ≡ [] }
 
     ensures after { After (T.puts taker.old) (T.ends taker.old) (T.stands taker.new) (limit_of reader.old) (I.left input.old) (I.left input.new) (O.got sink.old.output.now) (O.got sink.new.output.now) sink.new.gather.now.waiting (rest reader.new) result }
@@ -52,6 +53,7 @@ fn run_all<I: Source, O: Sink, T: Taker>(
     sink: &mut GatherSink<'_, O>,
 ) -> LogEnd
     requires fresh { IsFresh reader.old }
+    requires limit { limit_of reader.old ≤ 2 ^ 40 }
     requires empty { sink.old.gather.now.waiting ≡ [] }
 
     ensures ran { Ran (T.puts taker.old) (T.ends taker.old) (T.closed taker.new) (limit_of reader.old) (I.left input.old) (I.left input.new) (O.got sink.old.output.now) (O.got sink.new.output.now) result }
@@ -91,6 +93,7 @@ pub fn drive<I: Source, O: Sink, T: Taker>(
     sink: &mut GatherSink<'_, O>,
 ) -> LogEnd
     requires fresh { IsFresh reader.old }
+    requires limit { limit_of reader.old ≤ 2 ^ 40 }
     requires empty { sink.old.gather.now.waiting ≡ [] }
 
     ensures ran { Ran (T.puts taker.old) (T.ends taker.old) (T.closed taker.new) (limit_of reader.old) (I.left input.old) (I.left input.new) (O.got sink.old.output.now) (O.got sink.new.output.now) result }

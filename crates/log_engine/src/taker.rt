@@ -1,5 +1,5 @@
 // What a command does with the records of a log.
-ghost use Rattle.std.specs.Prelude.{◌≡◌, ℕ, List, [], ◌∷◌, ◌++◌, OnOk, OnErr};
+ghost use Rattle.std.specs.Prelude.{◌≡◌, ◌+◌, ◌<◌, ◌^◌, ℕ, List, [], ◌∷◌, ◌++◌, OnOk, OnErr};
 ghost use Rattle.std.specs.Io.KnownBytes.{Appends};
 ghost use Rattle.amr_io.specs.Fault.{HasCause};
 ghost use Rattle.log_engine.specs.Run.{Puts, PutsPart, IsPrefix};
@@ -19,6 +19,9 @@ pub trait Taker {
     /// It took these records.
     ghost stands: { Self → List (List ℕ) → Type 0 };
 
+    /// How many records it took.
+    ghost taken: { Self → ℕ };
+
     /// It was closed after these records: what it then tells of them, as counts.
     ghost closed: { Self → List (List ℕ) → Type 0 };
 
@@ -27,15 +30,19 @@ pub trait Taker {
     /// `Failed` comes only where the output's faults rose. A part of it was then put out.
     fn start<O: Sink>(&mut self, output: &mut O) -> Result<(), Failed>
         ensures done { OnOk result (stands self.new [] × Appends (O.got output.old) (O.got output.new) (puts self.old [])) }
+        ensures counted { OnOk result (taken self.new ≡ 0) }
         ensures failed { OnErr result (PutsPart (O.got output.old) (O.got output.new) [] (puts self.old [])) }
         ensures kept { (puts self.new ≡ puts self.old) × (ends self.new ≡ ends self.old) }
         ensures cause { HasCause (O.faults output.old) (O.faults output.new) result }
         ensures same { O.same output.old output.new };
 
-    /// Takes the next record, and puts out what it brings.
+    /// Takes the next record, of at most 2^40, and puts out what it brings.
     ///
     /// `Failed` comes only where the output's faults rose. A part of it was then put out.
     fn take<O: Sink>(&mut self, packet: &[u8], output: &mut O) -> Result<(), Failed>
+        requires few { taken self.old < 2 ^ 40 }
+
+        ensures counted { OnOk result (taken self.new ≡ taken self.old + 1) }
         ensures done { OnOk result ((hs : List (List ℕ)) → stands self.old hs → stands self.new (hs ++ packet.now ∷ [])
             × Puts (O.got output.old) (O.got output.new) (puts self.old hs) (puts self.old (hs ++ packet.now ∷ []))) }
         ensures failed { OnErr result ((hs : List (List ℕ)) → stands self.old hs

@@ -9,7 +9,9 @@ use std::test::Fail;
 
 // Puts out the octets of each record.
 #[derive(Drop)]
-struct Echo;
+struct Echo {
+    taken: u64,
+}
 
 impl Taker for Echo {
     ghost puts = { λ _ hs. flat_map (λ (packet : List ℕ). packet) hs };
@@ -18,14 +20,19 @@ impl Taker for Echo {
 
     ghost stands = { λ _ _. Unit {0} };
 
+    ghost taken = { λ echo. echo.taken };
+
     ghost closed = { λ _ _. Unit {0} };
 
     fn start<O: Sink>(&mut self, _output: &mut O) -> Result<(), Failed> {
+        self.taken = 0;
         Ok(())
     }
 
     fn take<O: Sink>(&mut self, packet: &[u8], output: &mut O) -> Result<(), Failed> {
-        write_whole(output, packet)
+        write_whole(output, packet)?;
+        self.taken += 1;
+        Ok(())
     }
 
     fn finish<O: Sink>(&mut self, _output: &mut O) -> Result<(), Failed> {
@@ -61,7 +68,7 @@ fn a_run_ends_as_its_log_and_its_faults_say(rt: HostRuntime) -> Result<(), Fail>
         let mut reader = LogReader::create(rt.alloc(), limit.max(1))?;
         let mut gather = Gather::create(rt.alloc(), 4)?;
         let mut sink = GatherSink::new(&mut output, &mut gather);
-        let result = drive(&mut Echo, &mut reader, &mut source, &mut sink);
+        let result = drive(&mut Echo { taken: 0 }, &mut reader, &mut source, &mut sink);
         assert_eq!(rt;
             result,
             end,

@@ -1,5 +1,5 @@
 // The steps of a run: its beginning, a turn for each record, and its close.
-ghost use Rattle.std.specs.Prelude.{◌≡◌, ◌≢◌, ℕ, ◌+◌, ◌-◌, ◌≤◌, ◌<◌, ◌⊎◌, List, [], ◌∷◌, ◌++◌, length, OnOk, OnErr};
+ghost use Rattle.std.specs.Prelude.{◌≡◌, ◌≢◌, ℕ, ◌+◌, ◌-◌, ◌^◌, ◌≤◌, ◌<◌, ◌⊎◌, List, [], ◌∷◌, ◌++◌, length, OnOk, OnErr};
 ghost use Rattle.std.specs.Io.KnownBytes.{Keeps, Appends};
 ghost use Rattle.amr_io.specs.Fault.{HasCause};
 ghost use Rattle.rtp_packet.specs.Record.{IsWhole};
@@ -19,6 +19,7 @@ pub(crate) fn begin<O: Sink, T: Taker>(
     taker: &mut T,
     sink: &mut GatherSink<'_, O>,
 ) -> Result<(), Failed>
+    ensures counted { OnOk result (T.taken taker.new ≡ 0) }
     ensures done { OnOk result (T.stands taker.new [] × Appends (logical O.got sink.old) (logical O.got sink.new) (T.puts taker.old []) × (sink.new.gather.now.waiting ≡ [])) }
     ensures failed { OnErr result (PutsPart (logical O.got sink.old) (logical O.got sink.new) [] (T.puts taker.old [])) }
     ensures kept { (T.puts taker.new ≡ T.puts taker.old) × (T.ends taker.new ≡ T.ends taker.old) }
@@ -55,7 +56,9 @@ pub(crate) fn take_next<I: Source, O: Sink, T: Taker>(
     sink: &mut GatherSink<'_, O>,
 ) -> Turn
     requires open { IsOpen reader.old }
+    requires few { T.taken taker.old < 2 ^ 40 }
 
+    ensures counted { result ≡ Turn.Taken → T.taken taker.new ≡ T.taken taker.old + 1 }
     ensures turned { Turned (T.puts taker.old) (T.stands taker.old) (T.stands taker.new) (I.left input.old) (I.left input.new) reader.old reader.new (O.got sink.old.output.now) (O.got sink.new.output.now) sink.old.gather.now.waiting sink.new.gather.now.waiting result }
     ensures kept { (T.puts taker.new ≡ T.puts taker.old) × (T.ends taker.new ≡ T.ends taker.old) }
     ensures faults { TurnFaults result (I.faults input.old) (I.faults input.new) (O.faults sink.old.output.now) (O.faults sink.new.output.now) }

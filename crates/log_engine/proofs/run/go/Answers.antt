@@ -23,6 +23,7 @@ records-init g c =
       limit = refl;
       puts = began.kept.0;
       ends = began.kept.1;
+      counted = omega (arith, began.counted, ap length c.requires.fresh.2);
       faults_in = refl;
       faults_out = began.cause;
       name = began.same.0;
@@ -62,6 +63,7 @@ records-preserved g c =
       limit = limits;
       puts = took.kept.0 ∙ kept.puts;
       ends = took.kept.1 ∙ kept.ends;
+      counted = let size = turn_size turned.0 (rest old) (rest new) turned.1 turned.3.1 in let one = took.counted refl in let before = kept.counted in omega (arith, turned.2.taken, size, one, before);
       faults_in = took.faults.0 ∙ kept.faults_in;
       faults_out = took.faults.1 ∙ way.cause ∙ kept.faults_out;
       name = took.same.0 ∙ way.same.0 ∙ kept.name;

@@ -1,4 +1,4 @@
-use Rattle.std.proofs.Common.{◌≡◌, ℕ, ◌+◌, ◌-◌, ◌++◌, [], List, length}
+use Rattle.std.proofs.Common.{◌≡◌, ℕ, ◌+◌, ◌*◌, ◌-◌, ◌≤◌, ◌++◌, [], List, length}
 use Rattle.amr_io.specs.declared.gate.Gate.TheVariants as gate
 use Rattle.rtp_packet.specs.Reading.{rest}
 use Rattle.spec_packet.specs.Log.{log_of}
@@ -11,6 +11,7 @@ invariant-records g l = record {
   limit : l.reader.inlet.limit ≡ l.fn.reader.inlet.limit;
   puts : g.T.Taker.puts l.taker ≡ g.T.Taker.puts l.fn.taker;
   ends : g.T.Taker.ends l.taker ≡ g.T.Taker.ends l.fn.taker;
+  counted : 2 * g.T.Taker.taken l.taker + length (rest l.reader) ≤ l.reader.inlet.taken;
   faults_in : g.I.Source.faults l.input ≡ g.I.Source.faults l.fn.input;
   faults_out : g.O.Sink.faults l.sink.output.now ≡ g.O.Sink.faults l.fn.sink.output.now;
   name : l.sink.output.ghost_name ≡ l.fn.sink.output.ghost_name;
