@@ -1,0 +1,12 @@
+use amr_playout::Plan;
+
+/// What recording a log is asked to do.
+#[derive(Clone, Copy, Debug, PartialEq, Eq)]
+pub struct RecordJob {
+    /// The format of the payloads, and the receiver's window and reach in frame times.
+    pub plan: Plan,
+    /// The RTP payload type of the packets that are taken; any where there is none.
+    pub pt: Option<u8>,
+    /// The most octets of the log that are taken, from 1 to 2^40.
+    pub limit: u64,
+}
