@@ -1,4 +1,4 @@
-ghost use Rattle.std.specs.Prelude.{◌≡◌, ◌≤◌, ◌<◌, ◌++◌, IsTrue, IsErr, OnOk, OnErr, List, [], ◌∷◌, true, false, length, map};
+ghost use Rattle.std.specs.Prelude.{◌≡◌, ◌≤◌, ◌<◌, IsTrue, IsErr, OnOk, OnErr, List, [], ◌∷◌, true, false};
 ghost use Rattle.std.specs.List.{AllByRecursion};
 ghost use Rattle.amr_io.specs.Fault.{HasCause};
 ghost use Rattle.amr_frame.specs.Blocks.{IsPresentBlock, GotBlocks, GotPrefix, frames_of};
@@ -17,47 +17,55 @@ type Row = (Kind, usize, usize, usize);
 
 const RESERVED: Row = (Kind::Reserved, 0, 0, 0);
 
+// The rows of a codec by frame type, from 0 to 15.
+fn rows_of(codec: Codec) -> [Row; 16] {
+    match codec {
+        Codec::Amr => [
+            (Kind::Speech, 95, 42, 12),
+            (Kind::Speech, 103, 49, 13),
+            (Kind::Speech, 118, 55, 15),
+            (Kind::Speech, 134, 58, 17),
+            (Kind::Speech, 148, 61, 19),
+            (Kind::Speech, 159, 75, 20),
+            (Kind::Speech, 204, 65, 26),
+            (Kind::Speech, 244, 81, 31),
+            (Kind::Sid, 39, 39, 5),
+            RESERVED,
+            RESERVED,
+            RESERVED,
+            RESERVED,
+            RESERVED,
+            RESERVED,
+            (Kind::Empty, 0, 0, 0),
+        ],
+        Codec::AmrWb => [
+            (Kind::Speech, 132, 54, 17),
+            (Kind::Speech, 177, 64, 23),
+            (Kind::Speech, 253, 72, 32),
+            (Kind::Speech, 285, 72, 36),
+            (Kind::Speech, 317, 72, 40),
+            (Kind::Speech, 365, 72, 46),
+            (Kind::Speech, 397, 72, 50),
+            (Kind::Speech, 461, 72, 58),
+            (Kind::Speech, 477, 72, 60),
+            (Kind::Sid, 40, 40, 5),
+            RESERVED,
+            RESERVED,
+            RESERVED,
+            RESERVED,
+            (Kind::Lost, 0, 0, 0),
+            (Kind::Empty, 0, 0, 0),
+        ],
+    }
+}
+
 #[test]
 fn each_type_has_its_row(rt: HostRuntime) {
-    let amr: [Row; 16] = [
-        (Kind::Speech, 95, 42, 12),
-        (Kind::Speech, 103, 49, 13),
-        (Kind::Speech, 118, 55, 15),
-        (Kind::Speech, 134, 58, 17),
-        (Kind::Speech, 148, 61, 19),
-        (Kind::Speech, 159, 75, 20),
-        (Kind::Speech, 204, 65, 26),
-        (Kind::Speech, 244, 81, 31),
-        (Kind::Sid, 39, 39, 5),
-        RESERVED,
-        RESERVED,
-        RESERVED,
-        RESERVED,
-        RESERVED,
-        RESERVED,
-        (Kind::Empty, 0, 0, 0),
-    ];
-    let wide: [Row; 16] = [
-        (Kind::Speech, 132, 54, 17),
-        (Kind::Speech, 177, 64, 23),
-        (Kind::Speech, 253, 72, 32),
-        (Kind::Speech, 285, 72, 36),
-        (Kind::Speech, 317, 72, 40),
-        (Kind::Speech, 365, 72, 46),
-        (Kind::Speech, 397, 72, 50),
-        (Kind::Speech, 461, 72, 58),
-        (Kind::Speech, 477, 72, 60),
-        (Kind::Sid, 40, 40, 5),
-        RESERVED,
-        RESERVED,
-        RESERVED,
-        RESERVED,
-        (Kind::Lost, 0, 0, 0),
-        (Kind::Empty, 0, 0, 0),
-    ];
-    for (codec, rows) in [(Codec::Amr, amr), (Codec::AmrWb, wide)] {
+    for codec in [Codec::Amr, Codec::AmrWb] {
+        let rows = rows_of(codec);
         for ft in 0..16u8 {
-            let (kind, bits, class_a, octets) = rows[usize::from(ft)];
+            let row = rows[usize::from(ft)];
+            let (kind, bits, class_a, octets) = row;
             assert_eq!(rt; kind_of(codec, ft), kind, "of type {ft}");
             assert_eq!(rt; bits_of(codec, ft), bits, "of type {ft}");
             assert_eq!(rt; class_a_of(codec, ft), class_a, "of type {ft}");
@@ -273,21 +281,19 @@ fn a_profile_breaks_the_first_of_its_rules(rt: HostRuntime) {
     }
 }
 
-// Puts each of these cells as a block of one channel.
-fn put_each<B: BlockSink>(sink: &mut B, cells: &[Cell]) -> Result<(), Failed>
+// Puts two blocks.
+fn put_two<B: BlockSink>(sink: &mut B, first: &[Cell], second: &[Cell]) -> Result<(), Failed>
     requires ready { IsTrue (B.ready sink.old) }
-    requires one { B.channels sink.old ≡ 1 }
-    requires blocks { AllByRecursion (λ cell. IsPresentBlock (B.codec sink.old) 1 (cell ∷ [])) cells.now }
+    requires first { IsPresentBlock (B.codec sink.old) (B.channels sink.old) first.now }
+    requires second { IsPresentBlock (B.codec sink.old) (B.channels sink.old) second.now }
 
-    ensures got { OnOk result (GotBlocks B.whole sink.old (map (λ cell. frames_of (cell ∷ [])) cells.now) sink.new) }
-    ensures part { OnErr result (GotPrefix B.whole B.part sink.old (map (λ cell. frames_of (cell ∷ [])) cells.now) sink.new) }
+    ensures got { OnOk result (GotBlocks B.whole sink.old (frames_of first.now ∷ frames_of second.now ∷ []) sink.new) }
+    ensures part { OnErr result (GotPrefix B.whole B.part sink.old (frames_of first.now ∷ frames_of second.now ∷ []) sink.new) }
     ensures cause { HasCause (B.faults sink.old) (B.faults sink.new) result }
     ensures same { B.same sink.old sink.new }
 {
-    for cell in cells {
-        sink.put_block(&[*cell])?;
-    }
-    Ok(())
+    sink.put_block(first)?;
+    sink.put_block(second)
 }
 
 // Puts three blocks where there is room for two. The third fails, and that is the one fault.
@@ -302,4 +308,37 @@ fn put_three(sink: &mut MemoryBlocks, cells: &[Cell; 3]) -> Result<(), Failed>
     sink.put_block(&cells[..1])?;
     sink.put_block(&cells[1..2])?;
     sink.put_block(&cells[2..])
+}
+
+// A frame of AMR with zero bits, as many as its type has.
+fn silent(ft: u8, len: usize) -> Cell
+    requires type_exists { ft ≤ 15 }
+    requires not_reserved { is_reserved Codec.Amr ft ≡ false }
+    requires size { len ≡ bits_in Codec.Amr ft }
+    requires within { len ≤ 480 }
+
+    ensures { IsPresentBlock Codec.Amr 1 (result ∷ []) }
+{
+    let Some(bits) = BitSlice::of(&[0; 60], 0, len) else {
+        unreachable!()
+    };
+    Cell::from_bits(Codec::Amr, ft, true, bits)
+}
+
+#[test]
+fn blocks_stand_in_memory_until_it_is_full(rt: HostRuntime) -> Result<(), Fail> {
+    let cells = [silent(7, 244), silent(4, 148), silent(2, 118)];
+    let mut sink = MemoryBlocks::create(rt.alloc(), Codec::Amr, 1, 2)?;
+    assert_eq!(rt; sink.blocks().len(), 0);
+    assert_eq!(rt; put_three(&mut sink, &cells), Err(Failed));
+    assert_eq!(rt; sink.blocks(), &cells[..2]);
+    let mut small = MemoryBlocks::create(rt.alloc(), Codec::Amr, 1, 1)?;
+    assert_eq!(rt; put_two(&mut small, &cells[..1], &cells[1..2]), Err(Failed));
+    assert_eq!(rt; small.blocks(), &cells[..1]);
+    let mut none = MemoryBlocks::create(rt.alloc(), Codec::Amr, 1, 0)?;
+    assert_eq!(rt; none.put_block(&cells[..1]), Err(Failed));
+    assert_eq!(rt; none.blocks().len(), 0);
+    // More room than there are numbers of cells.
+    assert!(rt; MemoryBlocks::create(rt.alloc(), Codec::AmrWb, 6, usize::MAX).is_err());
+    Ok(())
 }
