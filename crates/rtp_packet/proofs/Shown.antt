@@ -16,9 +16,9 @@ advances_show (Some all) None old new (Ok Record) a = absurd a.1.0
 advances_show (Some all) (Some ys) old new (Ok Record) a =
     let p : List ℕ = lent new in
     let same : rest old ++ all ≡ framed p ++ (rest new ++ ys) =
-        ap (λ l. rest old ++ l) a.1.0 ∙ sym (append_assoc (rest old) a.0 ys) ∙ ap (λ l. l ++ ys) a.1.1 ∙ append_assoc (framed p) (rest new) ys in
+    ap (λ l. rest old ++ l) a.1.0 ∙ sym (append_assoc (rest old) a.0 ys) ∙ ap (λ l. l ++ ys) a.1.1 ∙ append_assoc (framed p) (rest new) ys in
     let size : length (rest old) + length a.0 ≡ 2 + length p + length (rest new) =
-        omega (arith, sym (length-append (rest old) a.0), ap length a.1.1, length-append p (rest new)) in
+    omega (arith, sym (length-append (rest old) a.0), ap length a.1.1, length-append p (rest new)) in
     (a.1.2, omega (arith, size, a.2, a.3, new.limited, old.counted), (rest new ++ ys, same))
 advances_show (Some all) left' old new (Ok End) a =
     let same : rest old ++ all ≡ rest new = ap (λ l. rest old ++ l) a.1.2 ∙ a.1.1.0 in
@@ -29,7 +29,7 @@ advances_show (Some all) (Some ys) old new (Ok OverLimit) a =
     let front : List ℕ = rest old ++ a.0 in
     let x : ℕ = a.1.0 in
     let same : rest old ++ all ≡ front ++ (x ∷ ys) =
-        ap (λ l. rest old ++ l) (a.1.1 ∙ append_assoc a.0 (x ∷ []) ys) ∙ sym (append_assoc (rest old) a.0 (x ∷ ys)) in
+    ap (λ l. rest old ++ l) (a.1.1 ∙ append_assoc a.0 (x ∷ []) ys) ∙ sym (append_assoc (rest old) a.0 (x ∷ ys)) in
     let size : length front ≡ length (rest old) + length a.0 = length-append (rest old) a.0 in
     let room : ℕ = limit_of old - given old in
     let count : room ≡ length front = omega (arith, size, a.2, a.3, a.1.3, old.counted) in

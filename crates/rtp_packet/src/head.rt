@@ -11,5 +11,9 @@ pub(crate) fn record_size(octets: &[u8]) -> Option<usize>
         return None;
     }
     let size = 2 + usize::from(octets[0]) * 256 + usize::from(octets[1]);
-    if size <= octets.len() { Some(size) } else { None }
+    if size <= octets.len() {
+        Some(size)
+    } else {
+        None
+    }
 }

@@ -2,11 +2,17 @@
 #![tactic(auto)]
 
 mod head;
+mod header;
 mod log_reader;
 mod next;
+mod read;
+mod view;
 
 pub use log_reader::LogReader;
 pub use next::Next;
+pub use read::read_rtp;
+pub use spec_packet::RtpRefusal;
+pub use view::RtpView;
 
 #[cfg(test)]
 mod tests;
