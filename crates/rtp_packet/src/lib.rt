@@ -15,4 +15,6 @@ pub use spec_packet::RtpRefusal;
 pub use view::RtpView;
 
 #[cfg(test)]
+mod rtp_tests;
+#[cfg(test)]
 mod tests;
