@@ -1,6 +1,5 @@
 -- Numbers of a header that stand in whole octets, or in a part of one.
-use Rattle.std.proofs.Common.{◌≡◌, ℕ, ◌+◌, ◌*◌, ◌/◌, ◌%◌, ◌^◌, ◌<◌, List, get_or, nat_eq, sym, ap, ◌∙◌, arith}
-use Rattle.std.proofs.lemmas.Bool.Decides.{nat_tests}
+use Rattle.std.proofs.Common.{◌≡◌, ℕ, ◌+◌, ◌*◌, ◌/◌, ◌%◌, ◌<◌, List, get_or, nat_eq, ap, ◌∙◌, arith}
 use Rattle.amr_bits.specs.Bits.{bit_at, number_at}
 use Rattle.amr_bits.proofs.Places.{number_at-within, number_at-octet, number_at-more}
 

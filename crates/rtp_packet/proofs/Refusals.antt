@@ -1,5 +1,5 @@
 -- The rules for an RTP packet in their order, over the numbers that they compare.
-use Rattle.std.proofs.Common.{◌≡◌, ℕ, ◌+◌, ◌<◌, ◌≤◌, Bool, true, false, nat_eq, List, [], ◌∷◌, length, Option, Some, None, Result, Ok, Err, sym, refl, ap, subst, ◌∙◌, arith}
+use Rattle.std.proofs.Common.{◌≡◌, ℕ, ◌+◌, ◌<◌, ◌≤◌, Bool, true, false, nat_eq, List, [], ◌∷◌, length, Option, Some, None, Ok, Err, sym, refl, ap, subst, ◌∙◌, arith}
 use Rattle.std.specs.Prelude.{not, nat_lt, ◌&&◌, ◌||◌, ◌↔◌}
 use Rattle.std.proofs.lemmas.Bool.Decides.{nat_tests}
 use Rattle.amr_frame.specs.First.{when, first}

@@ -1,4 +1,4 @@
-use crate::{RtpRefusal, read_rtp};
+use crate::{RtpFields, RtpRefusal, read_rtp, size_rtp, write_rtp};
 use std::test::Fail;
 
 #[test]
@@ -73,5 +73,28 @@ fn the_fields_of_the_fixed_header(rt: HostRuntime) -> Result<(), Fail> {
     assert!(rt; view.extension().is_none());
     assert_eq!(rt; view.padding(), 0);
     assert_eq!(rt; view.payload(), [0x55u8].as_slice());
+    Ok(())
+}
+
+#[test]
+fn a_written_packet(rt: HostRuntime) -> Result<(), Fail> {
+    let fields = RtpFields {
+        marker: true,
+        payload_type: 97,
+        sequence: 0x1234,
+        timestamp: 0x89ab_cdef,
+        ssrc: 0x0102_0304,
+        sources: &[0x0506_0708],
+        extension: Some((0xbede, &[9, 10, 11, 12])),
+        padding: 3,
+    };
+    assert_eq!(rt; size_rtp(&fields, 2), 29);
+    let mut out = [0xffu8; 29];
+    write_rtp(&fields, &[0xf3, 0xc0], &mut out);
+    let want = [
+        0xb1u8, 0xe1, 0x12, 0x34, 0x89, 0xab, 0xcd, 0xef, 1, 2, 3, 4, 5, 6, 7, 8, 0xbe, 0xde, 0, 1,
+        9, 10, 11, 12, 0xf3, 0xc0, 0, 0, 3,
+    ];
+    assert_eq!(rt; out.as_slice(), want.as_slice());
     Ok(())
 }

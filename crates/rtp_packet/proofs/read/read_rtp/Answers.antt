@@ -1,5 +1,5 @@
-use Rattle.std.proofs.Common.{◌≡◌, ℕ, ◌+◌, ◌*◌, List, length, true, false, Some, None, Ok, sym, ap, ◌∙◌, refl, arith}
-use Rattle.spec_packet.specs.RtpReading.{rtp_refusal, packet_at, is_extended, is_padded, sources_end, header_end, padding_in}
+use Rattle.std.proofs.Common.{◌≡◌, ℕ, ◌+◌, ◌*◌, length, true, false, Some, None, Ok, sym, ap, ◌∙◌, refl}
+use Rattle.spec_packet.specs.RtpReading.{rtp_refusal, packet_at, is_padded, sources_end, header_end, padding_in}
 use Rattle.spec_packet.specs.declared.refusal.RtpRefusal.TheVariants as why
 use Rattle.rtp_packet.proofs.Refusals.{IsHeader, short, other_version, few_sources, left_rules, same_padded, too_padded, refused, taken, not_accepted}
 use Rattle.rtp_packet.proofs.read.read_rtp.Goals as goal
