@@ -4,3 +4,4 @@ pub mod Octets
 pub mod Padded
 pub mod Ends
 pub mod Refusals
+pub mod Causes

@@ -1,13 +1,15 @@
 -- What a step shows of the octets that were not given yet.
-use Rattle.std.proofs.Common.{◌≡◌, ℕ, ◌+◌, ◌-◌, ◌≤◌, ◌<◌, List, [], ◌∷◌, ◌++◌, refl, sym, ap, subst, ◌∙◌, length, take, arith, length-append, append_assoc}
-use Rattle.std.specs.Prelude.{Option, Some, None, Result, Ok, Err}
+use Rattle.std.proofs.Common.{◌≡◌, ◌≢◌, ℕ, ◌+◌, ◌-◌, List, [], ◌∷◌, ◌++◌, refl, sym, ap, subst, ◌∙◌, length, take, arith, length-append, append_assoc}
+use Rattle.std.specs.Prelude.{Option, Some, None, Result, Ok, Err, IfOk}
 use Rattle.std.proofs.Math.Seq.{take-append_seam}
+use Rattle.amr_io.specs.declared.gate.Gate.{Gate}
+use Rattle.amr_io.specs.declared.gate.Gate.TheVariants as gate
 use Rattle.amr_io.specs.declared.source.Failed.{Failed}
 use Rattle.spec_packet.specs.Log.{framed, IsPartial}
 use Rattle.rtp_packet.specs.declared.log_reader.LogReader.{LogReader}
 use Rattle.rtp_packet.specs.declared.next.Step.{Step}
 use Rattle.rtp_packet.specs.declared.next.Step.TheVariants.{Record, End, OverLimit}
-use Rattle.rtp_packet.specs.Reading.{rest, lent, given, limit_of, taken_of, Advances, Shows, ShowsIn}
+use Rattle.rtp_packet.specs.Reading.{rest, lent, given, limit_of, IsOpen, Advances, Repeats, ShowsIn}
 
 pub advances_show : (left left' : Option (List ℕ)) (old new : LogReader) (r : Result Step Failed) → Advances left left' old r new → ShowsIn left old r new
 advances_show None left' old new r a = tt
@@ -35,3 +37,20 @@ advances_show (Some all) (Some ys) old new (Ok OverLimit) a =
     let count : room ≡ length front = omega (arith, size, a.2, a.3, a.1.3, old.counted) in
     let taken : take room (rest old ++ all) ≡ rest new = ap (λ n. take n (rest old ++ all)) count ∙ ap (take (length front)) same ∙ take-append_seam front (x ∷ ys) ∙ a.1.2.0 in
     (omega (arith, ap length same, length-append front (x ∷ ys), count), subst IsPartial (sym taken) a.1.2.1)
+
+-- a step that is served leaves a reader that may be called again
+pub stays_usable : {S : Type 0} (left left' : Option (List ℕ)) (old new : LogReader) (r : Result Step Failed) (source source' : S) → old.inlet.gate ≢ gate.Spent
+    → (IsOpen old → Advances left left' old r new) → Repeats old r new source source' → IfOk r (λ _. new.inlet.gate ≢ gate.Spent)
+stays_usable left left' old new (Err e) source source' usable goes again = tt
+stays_usable left left' old new (Ok step) source source' usable goes again = by_gate old.inlet.gate refl
+  where
+    opened : (step : Step) → Advances left left' old (Ok step) new → new.inlet.gate ≢ gate.Spent
+    opened Record a = let g = a.1.3 in λ e. cc
+    opened End a = let g = a.1.3 in λ e. cc
+    opened OverLimit a = let g = a.1.4 in λ e. cc
+
+    by_gate : (g : Gate) → old.inlet.gate ≡ g → new.inlet.gate ≢ gate.Spent
+    by_gate gate.Open is = opened step (goes is)
+    by_gate gate.End is = let g = (again.0 is).2 in λ e. cc
+    by_gate gate.OverLimit is = let g = (again.1 is).2 in λ e. cc
+    by_gate gate.Spent is = absurd (usable is)

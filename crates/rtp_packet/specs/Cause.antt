@@ -1,5 +1,5 @@
 -- Why a reader of a log gives each of its answers (RFC 4571, 2). The limit is ours.
-use Rattle.std.specs.Prelude.{◌≡◌, ℕ, ◌≤◌, ◌<◌, List, [], ◌++◌, take, length, Option, Result, Ok, Err, IfSome, IfOk}
+use Rattle.std.specs.Prelude.{◌≡◌, ℕ, ◌≤◌, ◌<◌, List, [], ◌++◌, take, length, Option, Result, Ok, IfSome, IfOk}
 use Rattle.amr_io.specs.declared.source.Failed.{Failed}
 use Rattle.spec_packet.specs.Log.{IsPartial}
 use Rattle.rtp_packet.specs.declared.next.Next.{Next}
@@ -23,3 +23,12 @@ abbrev pub EndsAgain : List ℕ → Result Next Failed → Type 0
 EndsAgain rest (Ok End) = rest ≡ []
 EndsAgain rest (Ok (Truncated have)) = (length rest ≡ have) × (0 < have)
 EndsAgain rest _ = ⊥
+
+-- the same answer, with the same octets or the same count
+abbrev pub IsSameAnswer : Next → Next → Type 0
+IsSameAnswer (Packet p) (Packet q) = p.now ≡ q.now
+IsSameAnswer Null Null = Unit {0}
+IsSameAnswer End End = Unit {0}
+IsSameAnswer (Truncated have) (Truncated other) = have ≡ other
+IsSameAnswer OverLimit OverLimit = Unit {0}
+IsSameAnswer _ _ = ⊥

@@ -1,8 +1,9 @@
 -- What a call for the next record does to a reader of a log, once what it lent is given back. The reader is ours.
-use Rattle.std.specs.Prelude.{◌≡◌, ℕ, ◌+◌, ◌≤◌, ◌<◌, ◌^◌, List, [], ◌∷◌, ◌++◌, length, Option, Result, Ok, Err}
+use Rattle.std.specs.Prelude.{◌≡◌, ◌≢◌, ℕ, ◌+◌, ◌≤◌, ◌<◌, ◌^◌, List, [], ◌∷◌, ◌++◌, length, Option, Result, Ok, Err, IsOk}
 use Rattle.std.specs.Io.KnownBytes.{Consumes}
 use Rattle.std.specs.Borrow.{MutBor, Fml}
 use Rattle.std.specs.Io.BufRead.{Rests}
+use Rattle.amr_io.specs.declared.gate.Gate.TheVariants as gate
 use Rattle.amr_io.specs.declared.source.Failed.{Failed}
 use Rattle.spec_packet.specs.Log.{framed}
 use Rattle.rtp_packet.specs.declared.log_reader.LogReader.{LogReader}
@@ -37,7 +38,7 @@ record_octets (Ok (Packet p)) = 2 + length p.now
 record_octets (Ok Null) = 2
 record_octets _ = 0
 
--- the octets given rise by those of the record, within the limit; no more are held than a whole record; an end stays
+-- the octets given rise by those of the record, within the limit; no more are held than a whole record; an end stays; only a fault spends it
 pub record Counts (old : LogReader) (r : Result Next Failed) (new : LogReader) : Type 0 where
   pub rises : given new ≡ given old + record_octets r
   pub limit : limit_of new ≡ limit_of old
@@ -45,6 +46,7 @@ pub record Counts (old : LogReader) (r : Result Next Failed) (new : LogReader) :
   pub few : length (held new) ≤ 2 ^ 16 + 1
   pub ended : HasEnded old → (rest new ≡ rest old) × HasEnded new
   pub over : IsOver old → (rest new ≡ rest old) × IsOver new
+  pub usable : IsOk r → new.inlet.gate ≢ gate.Spent
 
 -- what the reader is once the record is given back
 abbrev pub RestsAt : MutBor LogReader → LogReader → Option (List ℕ) → Option (List ℕ) → Result Next Failed → Fml

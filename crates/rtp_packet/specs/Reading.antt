@@ -1,5 +1,5 @@
 -- What a reader of a log holds, and how far a step takes it. The reader is ours; records are those of RFC 4571, 2.
-use Rattle.std.specs.Prelude.{◌≡◌, ◌≢◌, ℕ, ◌+◌, ◌-◌, ◌≤◌, ◌<◌, ◌^◌, List, [], ◌∷◌, ◌++◌, drop, length, slice_range, Option, Result, Ok, Err, IfSome, IfOk, take}
+use Rattle.std.specs.Prelude.{◌≡◌, ℕ, ◌+◌, ◌-◌, ◌≤◌, ◌<◌, ◌^◌, List, [], ◌∷◌, ◌++◌, drop, length, slice_range, Option, Result, Ok, Err, IfSome, IfOk, take}
 use Rattle.std.specs.Io.KnownBytes.{Consumes}
 use Rattle.amr_io.specs.declared.gate.Gate.TheVariants as gate
 use Rattle.amr_io.specs.declared.source.Failed.{Failed}

@@ -5,6 +5,7 @@
 mod fields;
 mod head;
 mod header;
+mod law;
 mod log_reader;
 mod next;
 mod put;
@@ -13,6 +14,7 @@ mod view;
 mod write;
 
 pub use fields::RtpFields;
+pub use law::octets_tell_one_answer;
 pub use log_reader::LogReader;
 pub use next::Next;
 pub use read::read_rtp;

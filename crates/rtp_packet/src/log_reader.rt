@@ -118,6 +118,7 @@ impl LogReader {
         ensures open { IsOpen self.old → Advances (S.left source.old) (S.left source.new) self.old result self.new }
         ensures again { Repeats self.old result self.new source.old source.new }
         ensures shows { IsOpen self.old → ShowsIn (S.left source.old) self.old result self.new }
+        ensures usable { IfOk result (λ _. self.new.inlet.gate ≢ gate.Spent) }
         ensures size { IfOk result (λ step. step ≡ Step.Record → (2 ≤ self.new.lent) × (given self.new ≡ given self.old + self.new.lent)) }
         ensures no_read { IsWhole (rest self.old) → (source.new ≡ source.old) × IsOk result }
         ensures cause { HasCause (S.faults source.old) (S.faults source.new) result }

@@ -1,4 +1,5 @@
 pub mod Cut
 pub mod Places
 pub mod Prefix
+pub mod Recordings
 pub mod Sessions

@@ -1,7 +1,6 @@
 -- Which records the first stage doesn't take yet. The list of records is cut before the first of them; when
 -- the stage ends, this file goes and nothing else changes.
-use Rattle.std.specs.Prelude.{ℕ, ◌%◌, Bool, false, not, ◌&&◌, ◌||◌, nat_eq, nat_lt, nat_le, List, [], length, slice_index, slice_index_or, take, ℤ, Option, Some, None}
-use Rattle.std.specs.List.{range_with_len, position_or_len}
+use Rattle.std.specs.Prelude.{ℕ, ◌%◌, Bool, false, not, cond, ◌&&◌, ◌||◌, nat_eq, nat_lt, nat_le, List, [], ◌∷◌, ◌++◌, length, slice_index, ℤ, Option, Some, None}
 use Rattle.amr_frame.specs.declared.profile.Profile.{Profile}
 use Rattle.spec_packet.specs.RtpReading.{version}
 use Rattle.spec_session.specs.Packets.{Packet, packet_of, packets_of}
@@ -39,15 +38,15 @@ is_unbuilt p asked rules before octets =
     || is_repeat rules (packets_of p asked before) (packet_of p asked octets)
     || is_later (packets_of p asked before) (packet_of p asked octets)
 
--- how many records stand before the first that isn't taken yet
-abbrev pub built_count : Profile → Option ℕ → Rules → List (List ℕ) → ℕ
-built_count p asked rules records =
-    position_or_len (λ k. is_unbuilt p asked rules (take k records) (slice_index_or records k [])) (range_with_len 0 (length records))
+-- the records before the first that isn't taken yet, each judged after those before it
+abbrev pub built_after : Profile → Option ℕ → Rules → List (List ℕ) → List (List ℕ) → List (List ℕ)
+built_after p asked rules before [] = []
+built_after p asked rules before (x ∷ records) = cond (is_unbuilt p asked rules before x) []
+    (x ∷ built_after p asked rules (before ++ x ∷ []) records)
 
--- the records before the first that isn't taken yet
 abbrev pub built : Profile → Option ℕ → Rules → List (List ℕ) → List (List ℕ)
-built p asked rules records = take (built_count p asked rules records) records
+built p asked rules records = built_after p asked rules [] records
 
 -- whether there is such a record
 abbrev pub is_cut_short : Profile → Option ℕ → Rules → List (List ℕ) → Bool
-is_cut_short p asked rules records = nat_lt (built_count p asked rules records) (length records)
+is_cut_short p asked rules records = nat_lt (length (built p asked rules records)) (length records)
