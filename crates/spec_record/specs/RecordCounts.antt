@@ -1,6 +1,6 @@
 -- The counts of a recording: ours. A record counts under the first of these that holds: it has no octet, it isn't an
 -- RTP packet, its payload type isn't the asked one, its payload isn't one of the format, it isn't accepted.
-use Rattle.std.specs.Prelude.{ℕ, ◌-◌, Bool, true, false, not, ◌&&◌, nat_eq, List, length, filter, Option, None, Some, Result, Ok, Err, is_some}
+use Rattle.std.specs.Prelude.{ℕ, ◌-◌, Bool, true, false, not, ◌&&◌, List, [], ◌∷◌, length, filter, Option, None, Some, Result, Ok, Err, is_some}
 use Rattle.amr_frame.specs.declared.profile.Profile.{Profile}
 use Rattle.spec_packet.specs.Rtp.{RtpPacket}
 use Rattle.spec_packet.specs.RtpReading.{rtp_of}
@@ -13,7 +13,8 @@ use Rattle.spec_session.specs.Session.{accepted}
 
 -- a record of no octets
 abbrev pub is_null : List ℕ → Bool
-is_null octets = nat_eq (length octets) 0
+is_null [] = true
+is_null (o ∷ octets) = false
 
 abbrev is_refused_header : Result RtpPacket RtpRefusal → Bool
 is_refused_header (Ok packet) = false
