@@ -1,0 +1,8 @@
+//! The frame CRC of octet-aligned payloads, and the robust order of their octets (RFC 4867, 4.4.2.1
+//! and 4.4.4).
+#![tactic(auto)]
+
+mod crc;
+mod table;
+
+pub use crc::crc8;
