@@ -1,3 +1,7 @@
 mod Sums
 mod Division
 mod Registers
+mod Counts
+mod Rows
+mod Plain
+mod Moves

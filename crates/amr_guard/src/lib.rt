@@ -3,6 +3,10 @@
 #![tactic(auto)]
 
 mod crc;
+mod places;
+mod sorting;
 mod table;
 
 pub use crc::crc8;
+pub use places::sorted_place;
+pub use sorting::{sort_octets, unsort_octets};
