@@ -1,6 +1,7 @@
 mod Sums
 mod Division
 mod Registers
+mod Whole
 mod Counts
 mod Rows
 mod Plain

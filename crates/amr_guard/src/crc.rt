@@ -1,5 +1,5 @@
-ghost use Rattle.std.specs.Prelude.{◌≡◌, ◌≤◌, ◌<◌, ◌^◌, Bool, List, length, ◌++◌};
-ghost use Rattle.amr_bits.specs.Bits.{number as number_of};
+ghost use Rattle.std.specs.Prelude.{◌≡◌, ◌+◌, ◌*◌, ◌/◌, ◌≤◌, ◌<◌, ◌^◌, Bool, List, length, ◌++◌};
+ghost use Rattle.amr_bits.specs.Bits.{bits_at, bits_of, number as number_of};
 ghost use Rattle.amr_bits.specs.Runs.{run};
 ghost use Rattle.spec_payload.specs.FrameCrc.{crc_of};
 
@@ -13,12 +13,45 @@ pub fn crc8(bits: BitSlice<'_>) -> u8
     ensures { result ≡ number_of (crc_of (run bits.entry)) }
 {
     let whole = bits.len / 8;
-    let mut register = 0;
-    for at in 0..whole {
-        register = after_octet(register, bits.number(8 * at, 8) as u8);
-    }
     let rest = (bits.len % 8) as u32;
-    after_bits(register, bits.number(8 * whole, rest), rest)
+    after_bits(crc_of_whole(bits), bits.number(8 * whole, rest), rest)
+}
+
+/// The CRC of all bits of the run but the last `len % 8`.
+fn crc_of_whole(bits: BitSlice<'_>) -> u8
+    ensures { result ≡ number_of (crc_of (bits_at bits.entry.octets.now bits.entry.start (8 * (bits.entry.len / 8)))) }
+{
+    let whole = bits.len / 8;
+    if bits.start % 8 == 0 {
+        // The frames of an octet-aligned payload begin at octets, so this is the way that counts.
+        let first = bits.start / 8;
+        crc_of_octets(&bits.octets[first..first + whole])
+    } else {
+        crc_across(bits, whole)
+    }
+}
+
+/// The CRC of the bits of octets.
+fn crc_of_octets(octets: &[u8]) -> u8
+    ensures { result ≡ number_of (crc_of (bits_of octets.now)) }
+{
+    let mut register = 0;
+    for octet in octets {
+        register = after_octet(register, *octet);
+    }
+    register
+}
+
+/// The CRC of the first `8 * count` bits of a run that may begin inside an octet.
+fn crc_across(bits: BitSlice<'_>, count: usize) -> u8
+    requires { 8 * count ≤ bits.len }
+    ensures { result ≡ number_of (crc_of (bits_at bits.entry.octets.now bits.entry.start (8 * count))) }
+{
+    let mut crc = 0;
+    for at in 0..count {
+        crc = after_octet(crc, bits.number(8 * at, 8) as u8);
+    }
+    crc
 }
 
 /// The CRC of bits with eight more behind them, from that of the bits.

@@ -6,6 +6,8 @@ mod crc;
 mod places;
 mod sorting;
 mod table;
+#[cfg(test)]
+mod tests;
 
 pub use crc::crc8;
 pub use places::sorted_place;

@@ -43,7 +43,7 @@ fn frames_having(lengths: &[u8], octet: usize) -> usize
 }
 
 /// For each octet number, the place in the robust order of the first octet with that number.
-pub fn row_starts(lengths: &[u8]) -> [usize; 60]
+pub(crate) fn row_starts(lengths: &[u8]) -> [usize; 60]
     requires frames { length lengths.now ≤ 384 }
     requires short { All (λ l. l ≤ 60) lengths.now }
     ensures { AreNext lengths.now 0 result }

@@ -23,7 +23,7 @@ const CRC_OF_OCTET: [u8; 256] = [
 ];
 
 /// The CRC of the eight bits of an octet.
-pub fn crc_of_octet(octet: u8) -> u8
+pub(crate) fn crc_of_octet(octet: u8) -> u8
     ensures { result ≡ number (crc_of (nat 8 octet)) }
 {
     CRC_OF_OCTET[octet as usize]
