@@ -1,5 +1,5 @@
 -- Octets and frames that are counted: those before a place of the robust order.
-use Rattle.std.proofs.Common.{◌≡◌, ℕ, zero, suc, ◌+◌, ◌<◌, ◌≤◌, Bool, true, false, cond, ltb, eqb, List, [], ◌∷◌, ◌++◌, length, take, set, get_or, sum, min, max, sym, refl, ap, ◌∙◌, subst, arith, inl, inr}
+use Rattle.std.proofs.Common.{◌≡◌, ℕ, zero, suc, ◌+◌, ◌<◌, ◌≤◌, cond, ltb, eqb, List, [], ◌∷◌, ◌++◌, length, take, set, get_or, sum, min, max, sym, refl, ap, ◌∙◌, subst, arith, inl, inr}
 use Rattle.std.specs.List.{All, range_with_len, sum_by, count_by, filter, fold}
 use Rattle.std.proofs.Math.Nat.{le-max_left, le-max_right}
 use Rattle.std.proofs.lemmas.Bool.{lt-ltb, le-ltb, cases_lt, cases_eq}
@@ -40,9 +40,9 @@ sum-both f g h e (x ∷ xs) =
 
 min-next : (x o : ℕ) → min x (suc o) ≡ min x o + cond (ltb o x) 1 0
 min-next x o = elim (cases_lt o x) [
-    | inl t ↦ (let e = lt-ltb o x t in rw e (omega arith))
-    | inr t ↦ (let e = le-ltb o x t in rw e (omega arith))
-  ]
+  | inl t ↦ (let e = lt-ltb o x t in rw e (omega arith))
+  | inr t ↦ (let e = le-ltb o x t in rw e (omega arith))
+]
 
 -- one octet of each frame more
 pub below-next : (ls : List ℕ) (o n : ℕ) → below ls (suc o) n ≡ below ls o n + before ls o n
@@ -109,17 +109,22 @@ having-at ls o (suc n) f h l p =
   where
     lt : n < length ls
     lt = omega arith
+
     ap_lt : f ≡ n → o < get_or ls n 0
     ap_lt e = subst (λ k. o < get_or ls k 0) e p
+
     last : o < get_or ls n 0 → Stands ls o (suc n) n
     last q = (
       omega (arith, before-has ls o n lt q),
-      ap (λ w. get_or w (before ls o n) 0) (having-has ls o n q) ∙ get_or_push (having ls o n) n 0 (before ls o n) (length-having ls o n (omega arith)))
+      ap (λ w. get_or w (before ls o n) 0) (having-has ls o n q) ∙ get_or_push (having ls o n) n 0 (before ls o n) (length-having ls o n (omega arith)),
+    )
+
     earlier : Stands ls o n f → Stands ls o (suc n) f
     earlier r = (
       omega (arith, r.0, before-more ls o n lt),
       ap (λ w. get_or w (before ls o f) 0) (having-more ls o n)
-      ∙ get_or_append_left (having ls o n) (cond (ltb o (get_or ls n 0)) (n ∷ []) []) 0 (before ls o f) (omega (arith, r.0, length-having ls o n (omega arith))) ∙ r.1)
+          ∙ get_or_append_left (having ls o n) (cond (ltb o (get_or ls n 0)) (n ∷ []) []) 0 (before ls o f) (omega (arith, r.0, length-having ls o n (omega arith))) ∙ r.1,
+    )
 
 -- each frame that has the octet is found by how many do before it
 pub having-find : (ls : List ℕ) (o n j : ℕ) → n ≤ length ls → j < before ls o n → (f : ℕ) × (f < n) × (o < get_or ls f 0) × (before ls o f ≡ j)
@@ -128,9 +133,9 @@ having-find ls o (suc n) j h l =
     elim (cases_lt j (before ls o n)) [
       | inl t ↦ let r = having-find ls o n j (omega arith) t in (r.0, omega (arith, r.1), r.2, r.3)
       | inr t ↦ elim (cases_lt o (get_or ls n 0)) [
-          | inl q ↦ (n, omega arith, q, omega (arith, t, l, before-has ls o n (omega arith) q))
-          | inr q ↦ absurd (omega (arith, t, l, before-lacks ls o n (omega arith) q))
-        ]
+        | inl q ↦ (n, omega arith, q, omega (arith, t, l, before-has ls o n (omega arith) q))
+        | inr q ↦ absurd (omega (arith, t, l, before-lacks ls o n (omega arith) q))
+      ]
     ]
 
 -- the greatest of several numbers and a first one is at least the first, and at least each other
@@ -195,11 +200,12 @@ next_step first places o l h k small =
         let a = le-ltb k o (omega (arith, e)) in
         let b = lt-ltb k (o + 1) (omega (arith, e)) in
         ap (λ x. x + 1) (p ∙ ap (λ t. first k + cond t 1 0) a) ∙ omega arith ∙ ap (λ t. first k + cond t 1 0) (sym b)
+
     there : (k ≡ o → ⊥) → first k + cond (ltb k o) 1 0 ≡ first k + cond (ltb k (o + 1)) 1 0
     there ne = elim (cases_lt k o) [
-        | inl t ↦ ap (λ t. first k + cond t 1 0) (lt-ltb k o t ∙ sym (lt-ltb k (o + 1) (omega arith)))
-        | inr t ↦ ap (λ t. first k + cond t 1 0) (le-ltb k o t ∙ sym (le-ltb k (o + 1) (omega (arith, t, ne))))
-      ]
+      | inl t ↦ ap (λ t. first k + cond t 1 0) (lt-ltb k o t ∙ sym (lt-ltb k (o + 1) (omega arith)))
+      | inr t ↦ ap (λ t. first k + cond t 1 0) (le-ltb k o t ∙ sym (le-ltb k (o + 1) (omega (arith, t, ne))))
+    ]
 
 -- the next place of an octet is its rank while its turn has not come
 pub next-now : (ls : List ℕ) (f o : ℕ) → next_place ls f o + cond (ltb o o) 1 0 ≡ rank ls f o

@@ -1,5 +1,5 @@
 -- Octets that are moved between the two orders.
-use Rattle.std.proofs.Common.{◌≡◌, ℕ, suc, ◌+◌, ◌<◌, ◌≤◌, ◌≢◌, List, length, map, set, take, get_or, sum, sym, refl, ap, ◌∙◌, subst, arith, inl, inr}
+use Rattle.std.proofs.Common.{◌≡◌, ℕ, ◌+◌, ◌<◌, ◌≢◌, List, length, set, take, get_or, sum, sym, ap, ◌∙◌, arith, inl, inr}
 use Rattle.std.proofs.lemmas.Bool.{cases_lt}
 use Rattle.std.proofs.lemmas.List.{ext_get_or, get_or-map, length-map, get_or-set_same, get_or-set_other, take_all}
 use Rattle.spec_payload.specs.RobustOrder.{Place, place, robust_order}
@@ -23,6 +23,7 @@ put_step ls plain out f o r t v oct er et ev long h g q w l =
         let one = rank-one ls g q f o w oct (sym (robust-rank ls g q w) ∙ e ∙ er) in
         let same : plain_place ls g q ≡ plain_place ls f o = ap (λ x. plain_place ls x q) one.0 ∙ ap (plain_place ls f) one.1 in
         omega (arith, a, same, et)
+
     here : (g ≡ f) × (q ≡ o) → get_or (set out r v) (robust_place ls g q) 0 ≡ get_or plain (plain_place ls g q) 0
     here e =
         let at : robust_place ls g q ≡ r = ap (λ x. robust_place ls x q) e.0 ∙ ap (robust_place ls f) e.1 ∙ robust-rank ls f o oct ∙ sym er in
@@ -62,14 +63,14 @@ length-sorted ls plain = length-map (robust_order ls) (λ (p : Place). get_or pl
 pub agree_sorted : (ls plain sorted : List ℕ) → length sorted ≡ sum ls → Agree ls plain sorted → sorted ≡ sorted_of ls plain
 agree_sorted ls plain sorted l h =
     ext_get_or 0 sorted (sorted_of ls plain) (l ∙ sym (length-sorted ls plain)) (λ k under.
-      let r = rank-find ls k (omega (arith, l, under)) in
-      ap (λ x. get_or sorted x 0) (sym r.3 ∙ sym (robust-rank ls r.0 r.1 r.2)) ∙ h r.0 r.1 r.2
-      ∙ sym (ap (λ x. get_or (sorted_of ls plain) x 0) (sym r.3) ∙ sorted-at ls plain r.0 r.1 r.2))
+    let r = rank-find ls k (omega (arith, l, under)) in
+    ap (λ x. get_or sorted x 0) (sym r.3 ∙ sym (robust-rank ls r.0 r.1 r.2)) ∙ h r.0 r.1 r.2
+    ∙ sym (ap (λ x. get_or (sorted_of ls plain) x 0) (sym r.3) ∙ sorted-at ls plain r.0 r.1 r.2))
 
 -- a list is known from its sorting
 pub sorted_one : (ls a b : List ℕ) → length a ≡ sum ls → length b ≡ sum ls → sorted_of ls a ≡ sorted_of ls b → a ≡ b
 sorted_one ls a b l m e =
     ext_get_or 0 a b (l ∙ sym m) (λ k under.
-      let all : sum (take (length ls) ls) ≡ sum ls = ap sum (take_all (length ls) ls (omega arith)) in
-      let r = plain-find ls (length ls) k (omega arith) (omega (arith, l, under, all)) in
-      ap (λ x. get_or a x 0) (sym r.3) ∙ sym (sorted-at ls a r.0 r.1 r.2) ∙ ap (λ w. get_or w (rank ls r.0 r.1) 0) e ∙ sorted-at ls b r.0 r.1 r.2 ∙ ap (λ x. get_or b x 0) r.3)
+    let all : sum (take (length ls) ls) ≡ sum ls = ap sum (take_all (length ls) ls (omega arith)) in
+    let r = plain-find ls (length ls) k (omega arith) (omega (arith, l, under, all)) in
+    ap (λ x. get_or a x 0) (sym r.3) ∙ sym (sorted-at ls a r.0 r.1 r.2) ∙ ap (λ w. get_or w (rank ls r.0 r.1) 0) e ∙ sorted-at ls b r.0 r.1 r.2 ∙ ap (λ x. get_or b x 0) r.3)

@@ -1,5 +1,5 @@
 -- Each octet of each frame has one place in plain order, and each place has one octet.
-use Rattle.std.proofs.Common.{◌≡◌, ℕ, zero, suc, ◌+◌, ◌-◌, ◌<◌, ◌≤◌, List, length, take, get_or, sum, sym, refl, ap, ◌∙◌, subst, arith, inl, inr}
+use Rattle.std.proofs.Common.{◌≡◌, ℕ, zero, suc, ◌+◌, ◌-◌, ◌<◌, ◌≤◌, List, length, take, get_or, sum, ap, ◌∙◌, arith, inl, inr}
 use Rattle.std.proofs.lemmas.Bool.{cases_lt, cases_eq, cases_order}
 use Rattle.std.proofs.lemmas.List.{take_all}
 use Rattle.std.proofs.lemmas.List.Sums.{sum_by_more}
@@ -28,9 +28,9 @@ plain-one ls f o g q v w e =
     elim (cases_order f g) [
       | inl s ↦ let t = ap (λ k. sum (take k ls)) s in (s, omega (arith, e, t))
       | inr d ↦ absurd (elim d [
-          | inl l ↦ let t = plain-under ls f o g v l (omega (arith, w.0)) in omega (arith, e, t)
-          | inr l ↦ let t = plain-under ls g q f w l (omega (arith, v.0)) in omega (arith, e, t)
-        ])
+        | inl l ↦ let t = plain-under ls f o g v l (omega (arith, w.0)) in omega (arith, e, t)
+        | inr l ↦ let t = plain-under ls g q f w l (omega (arith, v.0)) in omega (arith, e, t)
+      ])
     ]
 
 -- each place is one of an octet

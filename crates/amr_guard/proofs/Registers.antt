@@ -1,5 +1,5 @@
 -- The number of a CRC with more bits behind.
-use Rattle.std.proofs.Common.{◌≡◌, ℕ, ◌+◌, ◌-◌, ◌*◌, ◌/◌, ◌%◌, ◌^◌, ◌<◌, ◌≤◌, Bool, false, List, [], ◌∷◌, ◌++◌, length, take, drop, replicate, sym, refl, ap, ◌∙◌, arith}
+use Rattle.std.proofs.Common.{◌≡◌, ℕ, ◌+◌, ◌-◌, ◌*◌, ◌/◌, ◌%◌, ◌^◌, ◌<◌, ◌≤◌, Bool, false, List, ◌++◌, length, take, drop, replicate, sym, ap, ◌∙◌, arith}
 use Rattle.std.specs.Prelude.{bit_xor}
 use Rattle.std.proofs.lemmas.List.{length-append, append_assoc, length-replicate, take-append-drop, length-take-le, length-drop}
 use Rattle.std.proofs.lemmas.Nat.{div-mul-add, mod-mul-add, xor_lt, pow_below}
@@ -68,5 +68,6 @@ looked_up j r v h small under = xor_lt 8 (r / 2 ^ (8 - j)) v (below j h) (wide j
   where
     below : (j : ℕ) → j ≤ 7 → r / 2 ^ (8 - j) < 256
     below j h = omega arith
+
     wide : (j : ℕ) → j ≤ 7 → v < 2 ^ j → v < 256
     wide j h u = let e : 2 ^ j < 2 ^ 8 = pow_below j 8 (omega arith) in omega (arith, u, e)

@@ -1,7 +1,7 @@
 -- Each octet of each frame has one place in the robust order, and each place has one octet.
-use Rattle.std.proofs.Common.{◌≡◌, ℕ, zero, suc, ◌+◌, ◌-◌, ◌<◌, ◌≤◌, Bool, true, false, not, ◌&&◌, eqb, List, [], ◌∷◌, ◌++◌, length, map, take, get_or, sum, sym, refl, ap, ◌∙◌, subst, arith, inl, inr}
+use Rattle.std.proofs.Common.{◌≡◌, ℕ, zero, suc, ◌+◌, ◌-◌, ◌<◌, true, false, not, eqb, List, [], ◌∷◌, ◌++◌, length, map, get_or, sum, sym, refl, ap, ◌∙◌, subst, arith, inl, inr}
 use Rattle.std.specs.Prelude.{max, flat_map, fold}
-use Rattle.std.specs.List.{range_with_len, position_or_len}
+use Rattle.std.specs.List.{range_with_len}
 use Rattle.std.proofs.lemmas.Bool.{cases_lt, cases_eq, eq-eqb, eqb-true, and_parts, false_from_ne_true}
 use Rattle.std.proofs.lemmas.List.{length-append, length-map, get_or_append_left, get_or-append-add, get_or-map, append-nil, take_all}
 use Rattle.std.proofs.lemmas.List.Concat.{flat_map-append}
@@ -37,23 +37,26 @@ At ls w f o = (rank ls f o < length w) × ((d : Place) → get_or w (rank ls f o
 rows-at : (ls : List ℕ) (m f o : ℕ) → IsOctet ls f o → o < m → At ls (rows ls m) f o
 rows-at ls zero f o v l = absurd (omega arith)
 rows-at ls (suc m) f o v l = subst (λ w. At ls w f o) (sym (rows-more ls m)) (elim (cases_eq o m) [
-    | inl e ↦ subst (λ k. At ls (rows ls m ++ row ls m) f k) (sym e) (last (subst (λ k. k < get_or ls f 0) e v.1))
-    | inr ne ↦ earlier (rows-at ls m f o v (omega (arith, ne)))
-  ])
+  | inl e ↦ subst (λ k. At ls (rows ls m ++ row ls m) f k) (sym e) (last (subst (λ k. k < get_or ls f 0) e v.1))
+  | inr ne ↦ earlier (rows-at ls m f o v (omega (arith, ne)))
+])
   where
     last : m < get_or ls f 0 → At ls (rows ls m ++ row ls m) f m
     last q =
         let r = having-at ls m (length ls) f (omega arith) v.0 q in
         let n = length-rows ls m in
         let within : before ls m f < length (having ls m (length ls)) = omega (arith, r.0, length-having ls m (length ls) (omega arith)) in
-        let all : length (rows ls m ++ row ls m) ≡ below ls m (length ls) + before ls m (length ls) = length-append (rows ls m) (row ls m) ∙ ap (λ k. k + length (row ls m)) n ∙ ap (λ k. below ls m (length ls) + k) (length-row ls m) in
-        (omega (arith, r.0, all),
-        λ d. ap (λ k. get_or (rows ls m ++ row ls m) (k + before ls m f) d) (sym n) ∙ get_or-append-add (rows ls m) (row ls m) (before ls m f) d
-        ∙ get_or-map (λ g. place m g) (having ls m (length ls)) (before ls m f) 0 d within ∙ ap (place m) r.1)
+        let all : length (rows ls m ++ row ls m) ≡ below ls m (length ls) + before ls m (length ls) = length-append (rows ls m) (row ls m) ∙ ap (λ k. k + length (row ls m)) n ∙ ap (λ k. below ls m (length ls) + k) (length-row ls m) in (
+          omega (arith, r.0, all),
+          λ d. ap (λ k. get_or (rows ls m ++ row ls m) (k + before ls m f) d) (sym n) ∙ get_or-append-add (rows ls m) (row ls m) (before ls m f) d
+              ∙ get_or-map (λ g. place m g) (having ls m (length ls)) (before ls m f) 0 d within ∙ ap (place m) r.1,
+        )
+
     earlier : At ls (rows ls m) f o → At ls (rows ls m ++ row ls m) f o
     earlier r = (
       omega (arith, r.0, length-append (rows ls m) (row ls m)),
-      λ d. get_or_append_left (rows ls m) (row ls m) d (rank ls f o) r.0 ∙ r.1 d)
+      λ d. get_or_append_left (rows ls m) (row ls m) d (rank ls f o) r.0 ∙ r.1 d,
+    )
 
 -- each place of the first m octets is one of an octet
 rows-find : (ls : List ℕ) (m k : ℕ) → k < below ls m (length ls) → (f : ℕ) × (o : ℕ) × IsOctet ls f o × (rank ls f o ≡ k)
@@ -62,8 +65,8 @@ rows-find ls (suc m) k l =
     elim (cases_lt k (below ls m (length ls))) [
       | inl t ↦ rows-find ls m k t
       | inr t ↦
-        let r = having-find ls m (length ls) (k - below ls m (length ls)) (omega arith) (omega (arith, l, t, below-next ls m (length ls))) in
-        (r.0, m, (r.1, r.2), omega (arith, r.3, t))
+          let r = having-find ls m (length ls) (k - below ls m (length ls)) (omega arith) (omega (arith, l, t, below-next ls m (length ls))) in
+          (r.0, m, (r.1, r.2), omega (arith, r.3, t))
     ]
 
 below-sum : (ls : List ℕ) → below ls (fold max 0 ls) (length ls) ≡ sum ls
@@ -104,11 +107,13 @@ robust-rank ls f o v =
   where
     itself : is_place o f (place o f) ≡ true
     itself = rw (eq-eqb o o refl, eq-eqb f f refl) refl
+
     differs : (k g q : ℕ) → k < rank ls f o → IsOctet ls g q → rank ls g q ≡ k → is_place o f (place q g) ≡ false
     differs k g q l w e = false_from_ne_true (is_place o f (place q g)) (λ t.
-      let both = and_parts (eqb q o) (eqb g f) t in
-      let same : rank ls g q ≡ rank ls f o = ap (λ x. rank ls x q) (eqb-true g f both.1) ∙ ap (rank ls f) (eqb-true q o both.0) in
-      omega (arith, l, e, same))
+        let both = and_parts (eqb q o) (eqb g f) t in
+        let same : rank ls g q ≡ rank ls f o = ap (λ x. rank ls x q) (eqb-true g f both.1) ∙ ap (rank ls f) (eqb-true q o both.0) in
+        omega (arith, l, e, same))
+
     other : (k : ℕ) → k < rank ls f o → is_place o f (get_or (robust_order ls) k (place 0 0)) ≡ false
     other k l =
         let r = rank-find ls k (omega (arith, l, rank-below ls f o v)) in

@@ -3,9 +3,8 @@ ghost use Rattle.amr_bits.specs.Bits.{bits_at, bits_of, number as number_of};
 ghost use Rattle.amr_bits.specs.Runs.{run};
 ghost use Rattle.spec_payload.specs.FrameCrc.{crc_of};
 
-use amr_bits::BitSlice;
-
 use crate::table::crc_of_octet;
+use amr_bits::BitSlice;
 
 /// The frame CRC of a run of bits (RFC 4867, 4.4.2.1), its coefficient of `x^7` in the most
 /// significant bit. That of no bits is 0.

@@ -1,4 +1,4 @@
-use Rattle.std.proofs.Common.{◌≡◌, ℕ, ◌+◌, ◌-◌, ◌*◌, ◌/◌, take, drop, ap, ◌∙◌, arith}
+use Rattle.std.proofs.Common.{◌≡◌, ℕ, ◌+◌, ◌-◌, ◌/◌, take, drop, ap, ◌∙◌, arith}
 use Rattle.amr_bits.specs.Bits.{number, bits_of}
 use Rattle.spec_payload.specs.FrameCrc.{crc_of}
 use Rattle.amr_guard.proofs.Whole.{run_of_octets}

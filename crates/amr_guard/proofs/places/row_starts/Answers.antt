@@ -1,4 +1,4 @@
-use Rattle.std.proofs.Common.{◌≡◌, ℕ, ◌+◌, min, ltb, set, get_or, refl, sym, ap, ◌∙◌, arith}
+use Rattle.std.proofs.Common.{ℕ, ◌+◌, min, ltb, set, get_or, refl, sym, ap, ◌∙◌, arith}
 use Rattle.std.specs.List.{sum_by}
 use Rattle.std.proofs.lemmas.List.{length-set}
 use Rattle.std.proofs.lemmas.List.Edits.{fill_by_more}
@@ -8,9 +8,12 @@ use Rattle.amr_guard.proofs.places.row_starts.Goals as goal
 
 pub loop-octet-init : goal.loop-octet-init
 loop-octet-init c = (
-  refl, sym (sum-zero c.args.lengths.now), omega arith,
+  refl,
+  sym (sum-zero c.args.lengths.now),
+  omega arith,
   omega (arith, count-all c.args.lengths.now, c.counted-counts.ensures 0 (omega arith)),
-  λ k h. absurd (omega arith))
+  λ k h. absurd (omega arith),
+)
 
 pub overflow_sub-frames-in-loop-octet : goal.overflow_sub-frames-in-loop-octet
 overflow_sub-frames-in-loop-octet c =
@@ -24,8 +27,9 @@ loop-octet-preserved c =
     let inv = c.loop-octet.invariant in
     let most = count_by-le-length (λ x. ltb o x) ls in
     let first = λ (k : ℕ). sum_by (λ x. min x k) ls in (
-    length-set c.loop-octet.starts o c.loop-octet.start ∙ inv.0,
-    omega (arith, inv.1, inv.3, sum-next ls o),
-    omega (arith, inv.2, inv.3, most, c.requires.frames),
-    omega (arith, inv.3, count-next ls o, c.counted-counts.ensures (o + 1) (omega arith)),
-    λ k h. ap (λ v. get_or (set c.loop-octet.starts o v) k 0) inv.1 ∙ fill_by_more first c.loop-octet.starts o 0 (omega (arith, inv.0)) inv.4 k h)
+      length-set c.loop-octet.starts o c.loop-octet.start ∙ inv.0,
+      omega (arith, inv.1, inv.3, sum-next ls o),
+      omega (arith, inv.2, inv.3, most, c.requires.frames),
+      omega (arith, inv.3, count-next ls o, c.counted-counts.ensures (o + 1) (omega arith)),
+      λ k h. ap (λ v. get_or (set c.loop-octet.starts o v) k 0) inv.1 ∙ fill_by_more first c.loop-octet.starts o 0 (omega (arith, inv.0)) inv.4 k h,
+    )

@@ -1,4 +1,4 @@
-use Rattle.std.proofs.Common.{◌≡◌, sum, ap, ◌∙◌, arith}
+use Rattle.std.proofs.Common.{sum, ap, ◌∙◌, arith}
 use Rattle.std.proofs.lemmas.List.{take_all}
 use Rattle.amr_guard.proofs.Moves.{agree_all, agree_sorted}
 use Rattle.amr_guard.proofs.sorting.sort_octets.Goals as goal

@@ -1,4 +1,4 @@
-use Rattle.std.proofs.Common.{◌≡◌, ◌<◌, ◌+◌, ℕ, length, get_or, refl, ap, ◌∙◌, arith}
+use Rattle.std.proofs.Common.{◌≡◌, ◌<◌, ◌+◌, get_or, refl, ap, ◌∙◌, arith}
 use Rattle.std.proofs.lemmas.List.{length-set}
 use Rattle.amr_guard.specs.Walking.{next_place}
 use Rattle.amr_guard.proofs.Counts.{turn, next_step, sum-bounded}
@@ -39,7 +39,8 @@ loop-octet-preserved c =
     let start : c.args.start + o ≡ plain_place ls f o = ap (λ x. x + o) c.requires.start in
     let small : o < 60 = omega (arith, oct.1, c.requires.short f 0 oct.0) in
     let value = get_or c.args.sorted.now place 0 in (
-    length-set places o (place + 1) ∙ inv.0,
-    length-set out (c.args.start + o) value ∙ inv.1,
-    next_step (next_place ls f) places o (omega (arith, small, inv.0)) inv.2,
-    λ g q w l. take_step ls out c.args.sorted.now f o place (c.args.start + o) value oct (turn ls places f o oct c.requires.short inv.2) start refl inv.1 inv.3 g q w (omega (arith, l)))
+      length-set places o (place + 1) ∙ inv.0,
+      length-set out (c.args.start + o) value ∙ inv.1,
+      next_step (next_place ls f) places o (omega (arith, small, inv.0)) inv.2,
+      λ g q w l. take_step ls out c.args.sorted.now f o place (c.args.start + o) value oct (turn ls places f o oct c.requires.short inv.2) start refl inv.1 inv.3 g q w (omega (arith, l)),
+    )

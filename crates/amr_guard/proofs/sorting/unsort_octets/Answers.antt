@@ -1,4 +1,4 @@
-use Rattle.std.proofs.Common.{◌≡◌, sum, sym, ap, ◌∙◌, arith}
+use Rattle.std.proofs.Common.{sum, sym, ap, ◌∙◌, arith}
 use Rattle.std.proofs.lemmas.List.{take_all}
 use Rattle.amr_guard.proofs.Moves.{agree_all, agree_sorted, sorted_one}
 use Rattle.amr_guard.proofs.sorting.unsort_octets.Goals as goal
