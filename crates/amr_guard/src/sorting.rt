@@ -32,7 +32,8 @@ pub fn unsort_octets(lengths: &[u8], sorted: &[u8], out: &mut [u8])
     requires out { length out.old ≡ sum lengths.now }
     ensures octets { Agree lengths.now out.new sorted.now }
     ensures sorts_back { sorted_of lengths.now out.new ≡ sorted.now }
-    ensures undoes_sorting { (plain : List ℕ) → length plain ≡ sum lengths.now → sorted.now ≡ sorted_of lengths.now plain → out.new ≡ plain }
+    ensures undoes_sorting { (plain : List ℕ) → length plain ≡ sum lengths.now
+        → sorted.now ≡ sorted_of lengths.now plain → out.new ≡ plain }
 {
     let mut places = row_starts(lengths);
     let mut start = 0;
