@@ -1,5 +1,5 @@
 ghost use Rattle.spec_packet.specs.Log.{cut};
-ghost use Rattle.spec_record.specs.Recording.{Done, LimitReached, LogCut, end_of};
+ghost use Rattle.spec_record.specs.Recording.{Done, LimitReached, LogCut, NotBuilt, end_of, output_of};
 ghost use Rattle.std.specs.Prelude.{◌++◌, ◌∷◌, ◌≡◌, ◌^◌, []};
 ghost use Rattle.worked_rows.specs.Words.{counts, magic, packed, rec, recording, seven, zeros};
 
@@ -18,10 +18,12 @@ pub fn counts_of_sessions()
     ensures gap { counts packed 256 (rec 0 0 seven ++ rec 0 480 seven) ≡ record { late = 0; copies = 0; blocks = 4 } }
 {}
 
-/// How a recording ends.
+/// How a recording ends, and what it has written then.
 pub fn recordings_end()
-    ensures whole { end_of (2 ^ 40) (rec 0 0 seven) ≡ Done }
-    ensures at_limit { end_of 14 (zeros 14) ≡ Done }
-    ensures past_limit { end_of 14 (zeros 15) ≡ LimitReached }
-    ensures cut_short { end_of (2 ^ 40) (zeros 15) ≡ LogCut 1 }
+    ensures whole { end_of (recording packed 1) (2 ^ 40) (rec 0 0 seven) ≡ Done }
+    ensures at_limit { end_of (recording packed 1) 14 (zeros 14) ≡ Done }
+    ensures past_limit { end_of (recording packed 1) 14 (zeros 15) ≡ LimitReached }
+    ensures cut_short { end_of (recording packed 1) (2 ^ 40) (zeros 15) ≡ LogCut 1 }
+    ensures repeated { end_of (recording packed 1) (2 ^ 40) (rec 0 0 seven ++ rec 0 0 seven) ≡ NotBuilt }
+    ensures repeated_output { output_of (recording packed 1) (2 ^ 40) (rec 0 0 seven ++ rec 0 0 seven) ≡ magic ++ 0x3C ∷ zeros 31 }
 {}
