@@ -1,9 +1,8 @@
 -- What a call for the next record does to a reader of a log, once what it lent is given back. The reader is ours.
-use Rattle.std.specs.Prelude.{◌≡◌, ◌≢◌, ℕ, ◌+◌, ◌≤◌, ◌<◌, ◌^◌, List, [], ◌∷◌, ◌++◌, length, Option, Result, Ok, Err, IsOk}
+use Rattle.std.specs.Prelude.{◌≡◌, ℕ, ◌+◌, ◌≤◌, ◌<◌, ◌^◌, List, [], ◌∷◌, ◌++◌, length, Option, Result, Ok, Err, IsOk}
 use Rattle.std.specs.Io.KnownBytes.{Consumes}
 use Rattle.std.specs.Borrow.{MutBor, Fml}
 use Rattle.std.specs.Io.BufRead.{Rests}
-use Rattle.amr_io.specs.declared.gate.Gate.TheVariants as gate
 use Rattle.amr_io.specs.declared.source.Failed.{Failed}
 use Rattle.spec_packet.specs.Log.{framed}
 use Rattle.rtp_packet.specs.declared.log_reader.LogReader.{LogReader}
@@ -11,7 +10,7 @@ use Rattle.rtp_packet.specs.declared.next.Next.{Next}
 use Rattle.rtp_packet.specs.declared.next.Next.TheVariants.{Packet, Null, End, Truncated, OverLimit}
 use Rattle.rtp_packet.specs.contracts.log_reader.LogReader.{the_row}
 use Rattle.rtp_packet.specs.Record.{IsWhole}
-use Rattle.rtp_packet.specs.Reading.{held, rest, given, taken_of, limit_of, IsOpen, HasEnded, IsOver, IsSpent, Exhausts, Stops}
+use Rattle.rtp_packet.specs.Reading.{held, rest, given, taken_of, limit_of, IsOpen, HasEnded, IsOver, IsSpent, IsUsable, Exhausts, Stops}
 
 -- these octets were read, and a record was lent, which stays counted as held
 abbrev pub Brings : Option (List ℕ) → Option (List ℕ) → List ℕ → LogReader → List ℕ → LogReader → Type 0
@@ -46,7 +45,7 @@ pub record Counts (old : LogReader) (r : Result Next Failed) (new : LogReader) :
   pub few : length (held new) ≤ 2 ^ 16 + 1
   pub ended : HasEnded old → (rest new ≡ rest old) × HasEnded new
   pub over : IsOver old → (rest new ≡ rest old) × IsOver new
-  pub usable : IsOk r → new.inlet.gate ≢ gate.Spent
+  pub usable : IsOk r → IsUsable new
 
 -- what the reader is once the record is given back
 abbrev pub RestsAt : MutBor LogReader → LogReader → Option (List ℕ) → Option (List ℕ) → Result Next Failed → Fml

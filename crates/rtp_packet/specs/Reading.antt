@@ -1,5 +1,5 @@
 -- What a reader of a log holds, and how far a step takes it. The reader is ours; records are those of RFC 4571, 2.
-use Rattle.std.specs.Prelude.{◌≡◌, ℕ, ◌+◌, ◌-◌, ◌≤◌, ◌<◌, ◌^◌, List, [], ◌∷◌, ◌++◌, drop, length, slice_range, Option, Result, Ok, Err, IfSome, IfOk, take}
+use Rattle.std.specs.Prelude.{◌≡◌, ◌≢◌, ℕ, ◌+◌, ◌-◌, ◌≤◌, ◌<◌, ◌^◌, List, [], ◌∷◌, ◌++◌, drop, length, slice_range, Option, Result, Ok, Err, IfSome, IfOk, take}
 use Rattle.std.specs.Io.KnownBytes.{Consumes}
 use Rattle.amr_io.specs.declared.gate.Gate.TheVariants as gate
 use Rattle.amr_io.specs.declared.source.Failed.{Failed}
@@ -48,6 +48,10 @@ IsOver r = r.inlet.gate ≡ gate.OverLimit
 -- a read failed: no further call may be made
 abbrev pub IsSpent : LogReader → Type 0
 IsSpent r = r.inlet.gate ≡ gate.Spent
+
+-- no read failed: the next record may be asked for
+abbrev pub IsUsable : LogReader → Type 0
+IsUsable r = r.inlet.gate ≢ gate.Spent
 
 -- nothing was read yet
 abbrev pub IsFresh : LogReader → Type 0

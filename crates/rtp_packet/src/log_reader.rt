@@ -24,7 +24,7 @@ pub struct LogReader {
 }
 
 impl LogReader {
-    ghost use Rattle.rtp_packet.specs.Reading.{rest, held, lent, given, taken_of, limit_of, IsOpen, HasEnded, IsOver, IsFresh, Advances, ShowsIn, Repeats};
+    ghost use Rattle.rtp_packet.specs.Reading.{rest, held, lent, given, taken_of, limit_of, IsOpen, HasEnded, IsOver, IsUsable, IsFresh, Advances, ShowsIn, Repeats};
     ghost use Rattle.std.specs.Borrow.{sem};
     ghost use Rattle.rtp_packet.specs.Lent.{RestsAt};
     ghost use Rattle.rtp_packet.specs.Cause.{TellsIn, EndsAgain};
@@ -149,7 +149,7 @@ impl LogReader {
     /// `Truncated` and `OverLimit` are given again by later calls, without a read. `Failed` comes only where the source's faults
     /// rose: the reader is then spent.
     pub fn next<S: Source>(&mut self, source: &mut S) -> Result<Next<'_>, Failed>
-        requires usable { self.old.inlet.gate ≢ gate.Spent }
+        requires usable { IsUsable self.old }
 
         ensures no_read { IsWhole (rest self.old) → (source.new ≡ source.old) × IsOk result }
         ensures cause { HasCause (S.faults source.old) (S.faults source.new) result }
