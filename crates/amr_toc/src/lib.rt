@@ -1,0 +1,9 @@
+//! Tables of contents of payloads, and payloads that are read in place (RFC 4867, 4.3 and 4.4).
+#![tactic(auto)]
+
+mod entry;
+mod read;
+
+pub use entry::{Entry, Toc};
+pub use read::read_toc;
+pub use spec_payload::PayloadRefusal;
