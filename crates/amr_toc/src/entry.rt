@@ -1,4 +1,5 @@
-ghost use Rattle.std.specs.Prelude.{◌≡◌, ◌≤◌, ◌<◌, ℕ, length, slice_index_or, true};
+ghost use Rattle.std.specs.Prelude.{◌≡◌, ◌≤◌, ◌<◌, length, slice_index_or, true};
+ghost use Rattle.amr_toc.specs.Entries.{HasTypes};
 
 use arrayvec::ArrayVec;
 
@@ -18,11 +19,13 @@ impl Default for Entry {
     }
 }
 
-/// A table of contents: from 1 to 384 entries.
+/// A table of contents: from 1 to 384 entries, whose types are at most 15.
 #[derive(Drop)]
 pub struct Toc {
     entries: ArrayVec<Entry, 384>,
     ghost some: { 1 ≤ length entries.items },
+    ghost most: { length entries.items ≤ 384 },
+    ghost types: { HasTypes entries.items },
 }
 
 impl Toc {
@@ -30,7 +33,9 @@ impl Toc {
 
     /// A table of these entries.
     pub(crate) fn of(entries: ArrayVec<Entry, 384>) -> Toc
-        requires { 1 ≤ length entries.items }
+        requires some { 1 ≤ length entries.items }
+        requires most { length entries.items ≤ 384 }
+        requires types { HasTypes entries.items }
         ensures { listed result ≡ entries.items }
     {
         Toc { entries }
@@ -48,7 +53,8 @@ impl Toc {
     /// Entry `at`, counted from 0.
     pub fn entry(&self, at: usize) -> Entry
         requires { at < length (listed self.now) }
-        ensures { result ≡ slice_index_or (listed self.now) at result }
+        ensures ft { result.ft ≤ 15 }
+        ensures entry { result ≡ slice_index_or (listed self.now) at result }
     {
         self.entries.as_slice()[at]
     }

@@ -3,7 +3,9 @@
 
 mod entry;
 mod read;
+mod view;
 
 pub use entry::{Entry, Toc};
 pub use read::read_toc;
 pub use spec_payload::PayloadRefusal;
+pub use view::{bits_before, PayloadView};

@@ -1,9 +1,11 @@
-use Rattle.std.proofs.Common.{◌≡◌, ◌≤◌, ◌<◌, ◌*◌, ◌+◌, false, true, map, length, [], ◌∷◌, ◌++◌, ap, sym, ◌∙◌, arith}
+use Rattle.std.proofs.Common.{◌≡◌, ◌≤◌, ◌<◌, ◌*◌, ◌+◌, false, true, map, length, [], ◌∷◌, ◌++◌, ap, sym, subst, ◌∙◌, arith}
 use Rattle.std.specs.List.{range_with_len}
 use Rattle.std.proofs.lemmas.List.FromFn.{map-range_with_len_more, length-map-range_with_len}
 use borrow.Author.Count.{below_more}
 use Rattle.amr_bits.specs.Runs.{run}
 use Rattle.amr_toc.specs.Table.{entry_of, ends_at, fault_of, last_of, more_of}
+use Rattle.amr_toc.specs.Entries.{HasTypes}
+use Rattle.amr_toc.proofs.Sizes.{small_types}
 use Rattle.amr_toc.proofs.Ends.{last_is, fault_ends, zero_ends, goes_on, ends_at_most}
 use Rattle.amr_toc.proofs.read.read_entries.Goals as goal
 
@@ -59,3 +61,17 @@ unreachable-requires c =
     let bits = run c.args.bits in
     let most = p.max_blocks * p.channels in
     absurd (let e : true ≡ false = sym (ends_at_most p w bits) ∙ c.loop-at.invariant.1 most (omega arith) in cc)
+
+pub of-requires-clause-types : goal.of-requires-clause-types
+of-requires-clause-types c =
+    let bits = run c.args.bits in
+    let k = c.loop-at.at in
+    subst HasTypes (sym (c.push.ensures.items ∙ (λ i. c.loop-at.invariant.0 i ++ (c.entry_at.ensures i ∷ [])) ∙ sym (map-range_with_len_more (entry_of c.args.width bits) 0 k k (omega arith)))) (small_types c.args.width bits (k + 1))
+
+pub of-requires-clause-most : goal.of-requires-clause-most
+of-requires-clause-most c =
+    let k = c.loop-at.at in
+    let most = c.args.profile.now.max_blocks * c.args.profile.now.channels in
+    let l = ap length c.loop-at.invariant.0 ∙ length-map-range_with_len (entry_of c.args.width (run c.args.bits)) 0 k in
+    let few : k ≡ most → ⊥ = c.in_default.ensures.few in
+    omega (arith, l, c.push.ensures.len)
