@@ -1,6 +1,6 @@
 -- The table of contents in the octets of a payload is the table at the front of the bits behind the header.
 use Rattle.std.proofs.Common.{◌≡◌, ℕ, zero, suc, ◌+◌, ◌*◌, ◌<◌, ◌≤◌, Bool, true, false, cond, not, ◌||◌, eqb, ltb, List, [], ◌∷◌, length, map, get_or, refl, ap, ◌∙◌, sym, arith, Option, Some, None, inl, inr}
-use Rattle.std.specs.Prelude.{is_some, find}
+use Rattle.std.specs.Prelude.{is_some, find, ◌⊎◌}
 use Rattle.std.specs.Option.{unwrap_or}
 use Rattle.std.specs.List.{range_with_len}
 use Rattle.std.proofs.lemmas.Bool.{cases_lt, lt-ltb, le-ltb, ltb-false}
@@ -14,6 +14,8 @@ use Rattle.spec_payload.specs.declared.refusal.PayloadRefusal.{PayloadRefusal}
 use Rattle.spec_payload.specs.declared.refusal.PayloadRefusal.TheVariants as why
 use Rattle.spec_payload.specs.Reading.{head_bits, entry_bits, entry_start, type_at, more_at, quality_at, entry_fault, ends_table, last_entry, entries}
 use Rattle.payload_laws.proofs.Formats.{first_none, when_none, is_none_of}
+use Rattle.payload_laws.proofs.Ranges.{first_of_range}
+use Rattle.amr_toc.proofs.Ends.{ends_at_most}
 use Rattle.amr_toc.specs.Lists.{entry_in, toc_at}
 use Rattle.amr_toc.specs.Table.{more_of, type_of, entry_of, fault_of, ends_at, last_of, table_of}
 
@@ -41,7 +43,18 @@ map_alike f g a (suc n) h =
     let e = h a (omega arith) (omega arith) in
     λ i. e i ∷ map_alike f g (a + 1) n (λ k l m. h k (omega arith) (omega arith)) i
 
-module _ (p : Profile) (octets : List ℕ) (n : ℕ) (fits : head_bits p + n ≡ 8 * length octets) where
+-- the first of a range to pass one of two tests that agree there
+find_alike : (q r : ℕ → Bool) (a n : ℕ) → ((k : ℕ) → a ≤ k → k < a + n → q k ≡ r k) → find q (range_with_len a n) ≡ find r (range_with_len a n)
+find_alike q r a zero h = refl
+find_alike q r a (suc n) h =
+    λ i. cond (h a (omega arith) (omega arith) i) (Some a) (find_alike q r (a + 1) n (λ k l m. h k (omega arith) (omega arith)) i)
+
+-- the greatest table has 385 entries, one too many
+greatest : (b : Bool) (k : ℕ) → k ≤ 384 → (k + 1) * cond b 8 6 ≤ 3080
+greatest true k h = omega arith
+greatest false k h = omega arith
+
+module _ (p : Profile) (octets : List ℕ) (n : ℕ) (fits : head_bits p + n ≤ 8 * length octets) (enough : (head_bits p + n ≡ 8 * length octets) ⊎ (3080 ≤ n)) (few : p.max_blocks * p.channels ≤ 384) where
   abbrev h : ℕ
   h = head_bits p
 
@@ -68,11 +81,15 @@ module _ (p : Profile) (octets : List ℕ) (n : ℕ) (fits : head_bits p + n ≡
       run-get octets h n (k * w + 5) (omega arith) ∙ ap (bit_at octets) e
 
   -- whether an entry is whole
-  short_same : (k : ℕ) → ltb (length bits) ((k + 1) * w) ≡ ltb (8 * length octets) (h + (k + 1) * w)
-  short_same k =
+  short_same : (k : ℕ) → k ≤ 384 → ltb (length bits) ((k + 1) * w) ≡ ltb (8 * length octets) (h + (k + 1) * w)
+  short_same k most =
       let l = length-run octets h n in
+      let g = greatest p.octet_aligned k most in
       elim (cases_lt n ((k + 1) * w)) [
-        | inl t ↦ lt-ltb (length bits) ((k + 1) * w) (omega arith) ∙ sym (lt-ltb (8 * length octets) (h + (k + 1) * w) (omega arith))
+        | inl t ↦ elim enough [
+            | inl all ↦ lt-ltb (length bits) ((k + 1) * w) (omega arith) ∙ sym (lt-ltb (8 * length octets) (h + (k + 1) * w) (omega arith))
+            | inr long ↦ absurd (omega arith)
+          ]
         | inr t ↦ le-ltb (length bits) ((k + 1) * w) (omega arith) ∙ sym (le-ltb (8 * length octets) (h + (k + 1) * w) (omega arith))
       ]
 
@@ -81,12 +98,12 @@ module _ (p : Profile) (octets : List ℕ) (n : ℕ) (fits : head_bits p + n ≡
   not_short k e = let l = length-run octets h n in let f = ltb-false (length bits) ((k + 1) * w) e in omega arith
 
   -- what is wrong at an entry
-  pub fault_same : (k : ℕ) → fault_of p w bits k ≡ entry_fault p octets k
-  fault_same k =
+  fault_same : (k : ℕ) → k ≤ 384 → fault_of p w bits k ≡ entry_fault p octets k
+  fault_same k most =
       same_first (ltb (length bits) ((k + 1) * w)) (ltb (8 * length octets) (h + (k + 1) * w)) (why.TocUnended k)
       (when (is_reserved p.codec (type_of w bits k)) (why.ReservedType k (type_of w bits k)) ∷ when (eqb k (p.max_blocks * p.channels)) why.TooManyBlocks ∷ [])
       (when (is_reserved p.codec (type_at p octets k)) (why.ReservedType k (type_at p octets k)) ∷ when (eqb k (p.max_blocks * p.channels)) why.TooManyBlocks ∷ [])
-      (short_same k)
+      (short_same k most)
       (λ e. ap (λ t. first (when (is_reserved p.codec t) (why.ReservedType k t) ∷ when (eqb k (p.max_blocks * p.channels)) why.TooManyBlocks ∷ [])) (type_same k (not_short k e)))
 
   -- an entry without a fault is whole
@@ -94,15 +111,23 @@ module _ (p : Profile) (octets : List ℕ) (n : ℕ) (fits : head_bits p + n ≡
   whole_of k e = not_short k (when_none (ltb (length bits) ((k + 1) * w)) (why.TocUnended k) (first_none (when (ltb (length bits) ((k + 1) * w)) (why.TocUnended k)) _ e).0)
 
   -- where the table ends
-  ends_same : (k : ℕ) → ends_at p w bits k ≡ ends_table p octets k
-  ends_same k = same_end (fault_of p w bits k) (entry_fault p octets k) (more_of w bits k) (more_at p octets k) (fault_same k) (λ e. more_same k (whole_of k e))
+  ends_same : (k : ℕ) → k ≤ 384 → ends_at p w bits k ≡ ends_table p octets k
+  ends_same k most = same_end (fault_of p w bits k) (entry_fault p octets k) (more_of w bits k) (more_at p octets k) (fault_same k most) (λ e. more_same k (whole_of k e))
 
   pub last_same : last_of p w bits ≡ last_entry p octets
-  last_same = λ i. unwrap_or (find (λ k. ends_same k i) (range_with_len 0 (p.max_blocks * p.channels + 1))) 0
+  last_same = ap (λ (o : Option ℕ). unwrap_or o 0) (find_alike (ends_at p w bits) (ends_table p octets) 0 (p.max_blocks * p.channels + 1) (λ k l m. ends_same k (omega arith)))
+
+  -- the last entry is at most one too many
+  last_few : last_of p w bits ≤ 384
+  last_few =
+      let most = p.max_blocks * p.channels in
+      let found = first_of_range (ends_at p w bits) 0 (most + 1) most (omega arith) (omega arith) (ends_at_most p w bits) in
+      let is : last_of p w bits ≡ found.at = ap (λ (o : Option ℕ). unwrap_or o 0) found.is in
+      let high = found.high in omega arith
 
   -- what is wrong at the last entry
   pub last_fault : fault_of p w bits (last_of p w bits) ≡ entry_fault p octets (last_entry p octets)
-  last_fault = fault_same (last_of p w bits) ∙ ap (entry_fault p octets) last_same
+  last_fault = fault_same (last_of p w bits) last_few ∙ ap (entry_fault p octets) last_same
 
   -- the entries, where nothing is wrong
   pub table_same : fault_of p w bits (last_of p w bits) ≡ None → table_of p w bits ≡ toc_at p octets

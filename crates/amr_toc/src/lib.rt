@@ -6,6 +6,6 @@ mod read;
 mod view;
 
 pub use entry::{Entry, Toc};
-pub use read::read_toc;
+pub use read::{entries_within, read_toc};
 pub use spec_payload::PayloadRefusal;
 pub use view::{bits_before, PayloadView};

@@ -23,7 +23,7 @@ pub fn read_toc(profile: &Profile, bits: BitSlice<'_>, width: u32) -> Result<Toc
 
     ensures refused { IfErr result (λ why. table_refusal profile.now width (run bits.entry) ≡ Some why) }
 {
-    profile_bounds(profile);
+    entries_within(profile);
     let toc = read_entries(profile, bits, width as usize)?;
     let entries = toc.len();
     if entries % profile.channels as usize != 0 {
@@ -98,8 +98,8 @@ fn entry_at(bits: BitSlice<'_>, width: usize, at: usize) -> Entry
     }
 }
 
-/// A valid format has at least one channel and at most 384 frames in a payload.
-fn profile_bounds(profile: &Profile)
+/// A valid format has at least one channel, and at most 384 entries in a table. Says so, and does nothing.
+pub fn entries_within(profile: &Profile)
     requires { IsValid profile.now }
     ensures channels { 0 < profile.now.channels }
     ensures most { profile.now.max_blocks * profile.now.channels ≤ 384 }
