@@ -1,7 +1,7 @@
 -- The first rule that a bandwidth-efficient payload breaks, by the table that is read of it.
 use Rattle.std.proofs.Common.{◌≡◌, ℕ, ◌+◌, ◌*◌, ◌%◌, ◌<◌, ◌≤◌, Bool, true, false, eqb, ltb, List, [], ◌∷◌, length, map, refl, ap, ◌∙◌, sym, subst, arith, Option, Some, None}
-use Rattle.std.specs.Prelude.{sum, ◌⊎◌}
-use Rattle.std.proofs.lemmas.Bool.{eq-eqb, ne_eqb, lt-ltb, le-ltb}
+use Rattle.std.specs.Prelude.{sum, ◌⊎◌, Ok}
+use Rattle.std.proofs.lemmas.Bool.{eq-eqb, ne_eqb, lt-ltb, le-ltb, ltb-false}
 use Rattle.std.proofs.lemmas.List.{length-map}
 use Rattle.amr_bits.specs.Bits.{bits_at, octets_for}
 use Rattle.amr_frame.specs.declared.codec.Codec.{Codec}
@@ -15,10 +15,11 @@ use Rattle.amr_toc.specs.Lists.{types_of, toc_at}
 use Rattle.amr_toc.specs.Table.{table_of, table_refusal, fault_of, last_of}
 use Rattle.amr_toc.proofs.InPayload.{last_same, last_fault, table_same}
 use Rattle.amr_toc.proofs.Shown.{types_same}
-use Rattle.payload_laws.proofs.Formats.{plain, plain_of, plain_is, first_none}
+use Rattle.payload_laws.proofs.Formats.{plain, plain_of, plain_is, first_none, when_none}
 use Rattle.spec_payload.specs.declared.refusal.PayloadRefusal.{PayloadRefusal}
 use Rattle.spec_payload.specs.declared.refusal.PayloadRefusal.TheVariants as why
-use Rattle.spec_payload.specs.Reading.{entries, types, entry_fault, last_entry, need, payload_refusal}
+use Rattle.spec_payload.specs.Reading.{entries, types, entry_fault, last_entry, need, payload_refusal, read_as, value_at, checks_at}
+use Rattle.spec_payload.specs.Seen.{seen}
 
 -- the first of the rules, where one holds
 at_empty : (e : Bool) (x : PayloadRefusal) (os : List (Option PayloadRefusal)) → e ≡ true → first (when e x ∷ os) ≡ Some x
@@ -92,3 +93,22 @@ rules p octets n valid packed fits enough few =
 -- no octet is refused as none
 pub empty_is : (p : Profile) (octets : List ℕ) → length octets ≡ 0 → payload_refusal p octets ≡ Some why.Empty
 empty_is p octets e = at_empty (eqb (length octets) 0) why.Empty _ (eq-eqb (length octets) 0 e)
+
+-- a number that isn't 0
+pub above : (n : ℕ) → (n ≡ 0 → ⊥) → 0 < n
+above n h = omega (arith, h)
+
+-- octets that fit are as many as needed
+pub exactly : (n have : ℕ) → misfit n have ≡ None → n ≡ have
+exactly n have e =
+    let f = first_none (when (ltb have n) (why.BodyShort n have)) _ e in
+    let g = first_none (when (ltb n have) (why.BodyLong n have)) [] f.1 in
+    let a = ltb-false have n (when_none (ltb have n) (why.BodyShort n have) f.0) in
+    let b = ltb-false n have (when_none (ltb n have) (why.BodyLong n have) g.0) in
+    omega arith
+
+-- what octets that aren't refused say
+pub read_is : (p q : Profile) (octets others : List ℕ) → payload_refusal p octets ≡ None → q ≡ p → others ≡ octets → read_as p octets ≡ Ok (seen q (value_at q others) (checks_at q others))
+read_is p q octets others none e f =
+    let this : read_as p octets ≡ Ok (seen p (value_at p octets) (checks_at p octets)) = rw none refl in
+    this ∙ ap Ok (λ i. seen (sym e i) (value_at (sym e i) (sym f i)) (checks_at (sym e i) (sym f i)))

@@ -1,51 +1,57 @@
-ghost use Rattle.std.specs.Prelude.{◌≡◌, ◌+◌, ◌*◌, ◌≤◌, ◌<◌, ◌⊎◌, Err, IfErr, IfOk, None, Ok, Some, false, length};
+ghost use Rattle.std.specs.Prelude.{◌≡◌, ◌+◌, ◌*◌, ◌≤◌, ◌<◌, ◌⊎◌, IfErr, IfOk, false, length};
 ghost use Rattle.amr_bits.specs.Bits.{bits_at};
 ghost use Rattle.amr_bits.specs.Runs.{run};
 ghost use Rattle.amr_be.specs.Needs.{misfit, need_by};
+
 ghost use Rattle.amr_frame.specs.Profiles.{IsValid};
 ghost use Rattle.amr_toc.specs.Lists.{listed, toc_at};
+ghost use Rattle.amr_toc.specs.Told.{IsAccepted, IsRead, IsRefused};
 ghost use Rattle.amr_toc.specs.Viewed.{format_of, octets_of, viewed};
-ghost use Rattle.spec_payload.specs.Reading.{payload_refusal, read_as};
 
 use amr_bits::BitSlice;
 use amr_frame::Profile;
 use amr_toc::{bits_before, entries_within, read_toc, PayloadRefusal, PayloadView, Toc};
 
-/// Reads a bandwidth-efficient payload in place. Refuses octets by the first of P1 and P4 to P10 that
-/// holds of them.
+/// Reads a bandwidth-efficient payload in place. Refuses octets by the first of P1, P4 to P7, P9 and P10
+/// that holds of them; the others are of interleaved payloads.
 pub fn read_be<'a>(profile: &Profile, octets: &'a [u8]) -> Result<PayloadView<'a>, PayloadRefusal>
     requires valid { IsValid profile.now }
     requires packed { profile.now.octet_aligned ≡ false }
 
-    ensures value { IfOk result (λ view. read_as profile.now octets.now ≡ Ok (viewed view)) }
-    ensures accepted { IfOk result (λ view. payload_refusal profile.now octets.now ≡ None) }
+    ensures value { IfOk result (λ view. IsRead profile.now octets.now (viewed view)) }
     ensures format { IfOk result (λ view. format_of view ≡ profile.now) }
     ensures octets { IfOk result (λ view. octets_of view ≡ octets.now) }
 
-    ensures refused { IfErr result (λ why. payload_refusal profile.now octets.now ≡ Some why) }
-    ensures answer { IfErr result (λ why. read_as profile.now octets.now ≡ Err why) }
+    ensures refused { IfErr result (λ why. IsRefused profile.now octets.now why) }
 {
-    let toc = accept(profile, octets)?;
+    let toc = match accept(profile, octets) {
+        Ok(toc) => toc,
+        Err(why) => return Err(why),
+    };
     Ok(PayloadView::over(profile, octets, toc))
 }
 
 /// Reads the table of a payload that isn't refused.
-#[tactic(none)]
 fn accept(profile: &Profile, octets: &[u8]) -> Result<Toc, PayloadRefusal>
     requires valid { IsValid profile.now }
     requires packed { profile.now.octet_aligned ≡ false }
 
-    ensures accepted { IfOk result (λ toc. payload_refusal profile.now octets.now ≡ None) }
+    ensures accepted { IfOk result (λ toc. IsAccepted profile.now octets.now) }
     ensures table { IfOk result (λ toc. listed toc ≡ toc_at profile.now octets.now) }
-    ensures refused { IfErr result (λ why. payload_refusal profile.now octets.now ≡ Some why) }
+    ensures refused { IfErr result (λ why. IsRefused profile.now octets.now why) }
 {
     if octets.is_empty() {
         return Err(PayloadRefusal::Empty);
     }
     let bits = behind_header(octets);
     entries_within(profile);
-    let toc = read_toc(profile, bits, entry_width())?;
-    fit(profile, octets.len(), &toc)?;
+    let toc = match read_toc(profile, bits, entry_width()) {
+        Ok(toc) => toc,
+        Err(why) => return Err(why),
+    };
+    if let Some(why) = misfit_of(profile, octets.len(), &toc) {
+        return Err(why);
+    }
     Ok(toc)
 }
 
@@ -56,19 +62,18 @@ fn entry_width() -> u32
     6
 }
 
-/// Whether there are as many octets as the table needs.
-fn fit(profile: &Profile, have: usize, toc: &Toc) -> Result<(), PayloadRefusal>
-    ensures fits { IfOk result (λ _. need_by profile.now.codec (listed toc.now) ≡ have) }
-    ensures refused { IfErr result (λ why. misfit (need_by profile.now.codec (listed toc.now)) have ≡ Some why) }
+/// Why so many octets don't fit the table, where they are too few or too many.
+fn misfit_of(profile: &Profile, have: usize, toc: &Toc) -> Option<PayloadRefusal>
+    ensures { result ≡ misfit (need_by profile.now.codec (listed toc.now)) have }
 {
     let need = need_of(profile, toc);
     if have < need {
-        return Err(PayloadRefusal::BodyShort { need, have });
+        return Some(PayloadRefusal::BodyShort { need, have });
     }
     if need < have {
-        return Err(PayloadRefusal::BodyLong { need, have });
+        return Some(PayloadRefusal::BodyLong { need, have });
     }
-    Ok(())
+    None
 }
 
 /// The bits behind the codec mode request: all, or at least those of the greatest table. A slice may have
