@@ -8,7 +8,7 @@ ghost use Rattle.spec_payload.specs.Reading.{entry_start, payload_refusal};
 
 use crate::entry::{Entry, Toc};
 use amr_bits::BitSlice;
-use amr_frame::{bits_of, Cell, Profile};
+use amr_frame::{Cell, Profile, bits_of};
 
 /// A payload that was read, in place: its octets, its table of contents and where its body begins.
 #[derive(Drop)]
