@@ -2,6 +2,7 @@
 #![tactic(auto)]
 
 mod entry;
+mod octets;
 mod read;
 mod view;
 
