@@ -4,6 +4,8 @@
 mod job;
 mod run;
 mod status;
+#[cfg(test)]
+mod tests;
 
 use crate::run::run_gateway;
 use crate::status::{Status, number_of};

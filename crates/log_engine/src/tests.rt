@@ -32,9 +32,8 @@ impl Taker for Echo {
     }
 
     fn take<O: Sink>(&mut self, packet: &[u8], output: &mut O) -> Result<(), Failed> {
-        write_whole(output, packet)?;
         self.taken += 1;
-        Ok(())
+        write_whole(output, packet)
     }
 
     fn finish<O: Sink>(&mut self, _output: &mut O) -> Result<(), Failed> {
