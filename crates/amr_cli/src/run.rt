@@ -60,7 +60,7 @@ pub fn run_gateway<I: Source, O: Sink, E: Sink>(
     // The whole run.
     ensures run { (job : RecordJob) → job_of (texts words.now) ≡ Some (Job.RecordLog job)
         → Ran job (I.left input.old) (I.left input.new) (O.got output.old) (O.got output.new)
-            (I.faults input.old) (I.faults input.new) (O.faults output.old) (O.faults output.new) result }
+        (I.faults input.old) (I.faults input.new) (O.faults output.old) (O.faults output.new) result }
 {
     match read_words(words) {
         None => Status::Usage,

@@ -8,7 +8,10 @@ use std::test::Fail;
 // A log of one record: its length, an RTP header of version 2 with payload type 96, sequence number 0, timestamp 0 and SSRC 0,
 // and a payload of these octets, behind which zeros stand.
 fn log_of(alloc: Global, length: u8, payload: &[u8], zeros: usize) -> Result<Vec<u8>, AllocError> {
-    let mut log = Vec::from_slice(alloc, &[0, length, 0x80, 0x60, 0, 0, 0, 0, 0, 0, 0, 0, 0, 0])?;
+    let mut log = Vec::from_slice(
+        alloc,
+        &[0, length, 0x80, 0x60, 0, 0, 0, 0, 0, 0, 0, 0, 0, 0],
+    )?;
     for octet in payload {
         log.push(*octet)?;
     }
