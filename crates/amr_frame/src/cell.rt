@@ -17,11 +17,12 @@ pub struct Cell {
 impl Cell {
     ghost use Rattle.amr_bits.specs.Runs.{run};
     ghost use Rattle.amr_frame.specs.Cells.{IsCell, frame_of, held};
-    ghost use Rattle.amr_frame.specs.Frames.{no_data as no_data_frame};
+    ghost use Rattle.amr_frame.specs.Frames.{IsFrame, no_data as no_data_frame};
 
     /// The one cell without a frame.
     pub fn absent() -> Cell
         ensures absent { held result ≡ None }
+        ensures present { result.present ≡ false }
         ensures like_no_data { frame_of result ≡ no_data_frame }
     {
         Cell {
@@ -34,7 +35,9 @@ impl Cell {
 
     /// NO_DATA with Q = 1 (RFC 4867, 4.3.2).
     pub fn no_data() -> Cell
-        ensures { held result ≡ Some no_data_frame }
+        ensures frame { held result ≡ Some no_data_frame }
+        ensures present { IsTrue result.present }
+        ensures like_absent { frame_of result ≡ no_data_frame }
     {
         Cell {
             ft: 15,
@@ -51,7 +54,10 @@ impl Cell {
         requires size { bits.len ≡ bits_in codec ft }
 
         ensures frame { held result ≡ Some (record { ft = ft; q = q; bits = run bits.entry }) }
+        ensures fields { frame_of result ≡ record { ft = ft; q = q; bits = run bits.entry } }
+        ensures present { IsTrue result.present }
         ensures valid { IsCell codec result }
+        ensures of_codec { IsFrame codec (frame_of result) }
     {
         Cell {
             ft,

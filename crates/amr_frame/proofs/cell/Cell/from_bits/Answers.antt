@@ -9,3 +9,6 @@ returns-clause-valid c = record {
   known = c.requires.not_reserved;
   size = length-map-range_with_len (bit_at c.load.result.octets) 0 c.load.result.len ∙ c.load.ensures.len ∙ c.requires.size;
 }
+
+pub returns-clause-of_codec : goal.returns-clause-of_codec
+returns-clause-of_codec = returns-clause-valid

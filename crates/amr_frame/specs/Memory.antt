@@ -1,0 +1,13 @@
+-- What a sink of blocks over memory stands for. It is ours, for tests and trials.
+use Rattle.std.specs.Prelude.{ℕ, Bool, List}
+use Rattle.amr_frame.specs.declared.cell.Cell.{Cell}
+use Rattle.amr_frame.specs.declared.codec.Codec.{Codec}
+
+-- the codec and channels of the blocks, how many blocks there is room for, the cells of those got, the faults, and whether it is ready
+pub record Shelf : Type 0 where
+  pub codec : Codec
+  pub channels : ℕ
+  pub room : ℕ
+  pub cells : List Cell
+  pub faults : ℕ
+  pub ready : Bool
