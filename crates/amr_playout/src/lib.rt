@@ -1,0 +1,6 @@
+//! The bounded receiver: packets in any order go in, and the blocks of a session come out in their order, each
+//! frame the best of its copies in time, from memory that is reserved at the start.
+#![tactic(auto)]
+
+mod advance;
+mod ring;
