@@ -1,5 +1,5 @@
 -- What a cell stands for: a frame, or none.
-use Rattle.std.specs.Prelude.{◌≡◌, Bool, true, false, cond, [], Option, Some, None}
+use Rattle.std.specs.Prelude.{◌≡◌, Bool, true, false, cond, Option, Some, None}
 use Rattle.amr_bits.specs.Runs.{kept}
 use Rattle.amr_frame.specs.declared.cell.Cell.{Cell}
 use Rattle.amr_frame.specs.declared.codec.Codec.{Codec}
