@@ -1,5 +1,10 @@
+pub mod CellLists
 pub mod Cells
 pub mod Counts
+pub mod Holding
 pub mod Out
+pub mod Plans
 pub mod Ranges
+pub mod Results
 pub mod Spans
+pub mod Taking

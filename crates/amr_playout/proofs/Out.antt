@@ -7,6 +7,7 @@ use Rattle.std.proofs.lemmas.Bool.{cases_lt}
 use Rattle.std.proofs.lemmas.Int.{ints, clamps, by_lt_z}
 use Rattle.std.proofs.lemmas.List.Sums.{fold-append}
 use Rattle.amr_frame.specs.Frames.{Frame}
+use Rattle.amr_playout.specs.Standing.{Reaches}
 use Rattle.amr_playout.specs.Window.{base_of, out_to, row, rows, window_of}
 use Rattle.amr_playout.proofs.Cells.{Within, row_block}
 use Rattle.amr_playout.proofs.Ranges.{joined_maps, shifted_maps}
@@ -128,11 +129,6 @@ none_out rules h wide =
 
 least_first : (h : ℤ) (c : Copy) (cs : List Copy) → c.place ≤ℤ h → least h (c ∷ cs) ≡ least c.place cs
 least_first h c cs low = let a : int_min h c.place ≡ c.place = omega (arith, ints, clamps) in ap (λ z. least z cs) a
-
--- the greatest place of copies is the horizon
-abbrev pub Reaches : ℤ → List Copy → Type 0
-Reaches h [] = ⊤
-Reaches h (c ∷ cs) = greatest c.place cs ≡ h
 
 pub released_now : (rules : Rules) (h : ℤ) (cs : List Copy) → 0 < length cs → Within h cs → Reaches h cs → released_to rules cs (h -ℤ pos rules.window) ≡ out_to rules h cs (h -ℤ pos rules.window)
 released_now rules h [] has all top = absurd (omega arith)

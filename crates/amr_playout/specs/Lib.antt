@@ -1,2 +1,7 @@
+pub mod Copied
 pub mod Gains
+pub mod Plans
+pub mod Ring
+pub mod Shown
+pub mod Standing
 pub mod Window

@@ -3,4 +3,14 @@
 #![tactic(auto)]
 
 mod advance;
+mod frames;
+mod place;
+mod plan;
 mod ring;
+mod session;
+
+mod take;
+
+pub use frames::Frames;
+pub use plan::{Plan, PlanFault};
+pub use session::{Begun, Head};
