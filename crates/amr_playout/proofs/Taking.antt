@@ -10,7 +10,8 @@ use Rattle.std.proofs.lemmas.List.Sums.{fold-append}
 use Rattle.std.proofs.lemmas.Nat.{div_below, div-add-mod', mul-le}
 use Rattle.amr_frame.specs.Frames.{Frame, no_data}
 use Rattle.amr_playout.specs.Copied.{IsEdge, copies_to, newly}
-use Rattle.amr_playout.specs.Window.{item, repeated, window_of}
+use Rattle.amr_playout.specs.Window.{at, item, repeated, window_of}
+use Rattle.spec_payload.specs.Values.{Value}
 use Rattle.amr_playout.proofs.Cells.{copy, put_one}
 use Rattle.amr_playout.proofs.Counts.{repeated_more}
 use Rattle.spec_session.specs.Copies.{Copy, copies_in, copy_at, in_time}
@@ -77,3 +78,28 @@ pub repeated_step : (rules : Rules) (cs : List Copy) (edge q : ℤ) (c : ℕ) (f
     repeated (cs ++ newly edge q c f) ≡ repeated cs + cond had 1 0
 repeated_step rules cs edge q c f had h is =
     ap (λ ds. repeated (cs ++ ds)) (newly_in edge q c f h) ∙ repeated_more rules.codec cs (copy q c f) ∙ ap (λ b. repeated cs + cond b 1 0) (sym is)
+
+-- the place of a block, as the receiver counts it
+pub spot_at : (a : Accepted) (v : Value) (place k : ℕ) → a.packet.value ≡ v → a.place ≡ at place → at (place + k * v.stride) ≡ block_place a k
+spot_at a v place k is here =
+    let j : ℕ = k * v.stride in
+    let e : at (place + j) ≡ at place +ℤ pos j = omega (arith, ints) in
+    e ∙ ap (λ p. p +ℤ pos j) (sym here) ∙ ap (λ (w : Value). a.place +ℤ pos (k * w.stride)) (sym is)
+
+-- the copies with those of one frame more
+pub frame_more : (rules : Rules) (a : Accepted) (v : Value) (edge : ℤ) (place n : ℕ) (f : Frame) (cs : List Copy) → a.packet.value ≡ v → a.place ≡ at place → IsEdge rules a edge →
+    f ≡ slice_index_or v.frames n no_data →
+    (cs ++ copies_to rules a n) ++ newly edge (at (place + (n / rules.channels) * v.stride)) (n % rules.channels) f ≡ cs ++ copies_to rules a (n + 1)
+frame_more rules a v edge place n f cs is here edge_is f_is =
+    append_assoc cs (copies_to rules a n) (newly edge (at (place + (n / rules.channels) * v.stride)) (n % rules.channels) f)
+    ∙ ap (λ ds. cs ++ ds)
+    (ap (λ p. copies_to rules a n ++ newly edge p (n % rules.channels) f) (spot_at a v place (n / rules.channels) is here)
+    ∙ ap (λ x. copies_to rules a n ++ newly edge (block_place a (n / rules.channels)) (n % rules.channels) x) (f_is ∙ ap (λ (w : Value). slice_index_or w.frames n no_data) (sym is))
+    ∙ sym (copies_more rules a edge n edge_is (place_up a (n / rules.channels))))
+
+pub frame_more_least : (rules : Rules) (a : Accepted) (v : Value) (edge z y : ℤ) (place n : ℕ) (f : Frame) → a.packet.value ≡ v → a.place ≡ at place → IsEdge rules a edge →
+    f ≡ slice_index_or v.frames n no_data → y ≡ least z (copies_to rules a n) →
+    least y (newly edge (at (place + (n / rules.channels) * v.stride)) (n % rules.channels) f) ≡ least z (copies_to rules a (n + 1))
+frame_more_least rules a v edge z y place n f is here edge_is f_is y_is =
+    least_more z y (copies_to rules a n) (newly edge (at (place + (n / rules.channels) * v.stride)) (n % rules.channels) f) y_is
+    ∙ ap (least z) (frame_more rules a v edge place n f [] is here edge_is f_is)

@@ -1,5 +1,5 @@
 -- The cells of a window, block by block and within a block in channel order. This project's own.
-use Rattle.std.specs.Prelude.{ℕ, ◌+◌, ◌-◌, ◌*◌, ◌/◌, ◌%◌, List, length, map, slice_index_or, ℤ, pos, ◌+ℤ◌, ◌-ℤ◌, Option, None}
+use Rattle.std.specs.Prelude.{ℕ, ◌+◌, ◌-◌, ◌*◌, ◌/◌, ◌%◌, ◌^◌, List, length, map, slice_index_or, ℤ, pos, ◌+ℤ◌, ◌-ℤ◌, Option, None}
 use Rattle.std.specs.List.{range_with_len}
 use Rattle.amr_frame.specs.Cells.{held}
 use Rattle.amr_frame.specs.Frames.{Frame}
@@ -9,6 +9,10 @@ use Rattle.spec_session.specs.Counts.{different}
 use Rattle.spec_session.specs.Quality.{stored}
 use Rattle.spec_session.specs.Release.{best_at, blocks_between, least}
 use Rattle.spec_session.specs.Session.{Rules}
+
+-- places as the receiver counts them: the first packet's is 2^24, so that those before it are numbers too
+abbrev pub at : ℕ → ℤ
+at n = pos n -ℤ pos (2 ^ 24)
 
 -- what cells hold, in order
 abbrev pub held_of : List Cell → List (Option Frame)

@@ -1,4 +1,5 @@
-use Rattle.std.proofs.Common.{◌≡◌, ℕ, arith, ap, sym, ◌∙◌, replicate}
+use Rattle.amr_frame.specs.Frames.{Frame}
+use Rattle.std.proofs.Common.{Option, None, ◌≡◌, ℕ, arith, ap, sym, ◌∙◌, replicate}
 use Rattle.std.specs.List.{AllByRecursion}
 use Rattle.amr_frame.specs.Cells.{IsCell}
 use Rattle.amr_frame.specs.declared.cell.Cell.{Cell}
@@ -10,7 +11,7 @@ use Rattle.amr_playout.proofs.ring.absent_ring.Goals as goal
 pub returns-clause-items : goal.returns-clause-items
 returns-clause-items c =
     let end : c.loop-at.at ≡ c.args.cells = omega arith in
-    ap (λ b. held_of b.items) c.loop-at.invariant ∙ held-replicate c.loop-at.at c.absent-none.result c.absent-none.ensures.absent ∙ ap (λ n. replicate n _) end
+    ap (λ b. held_of b.items) c.loop-at.invariant ∙ held-replicate c.loop-at.at c.absent-none.result c.absent-none.ensures.absent ∙ ap (λ n. replicate {A = Option Frame} n None) end
 
 pub returns-clause-valid : goal.returns-clause-valid
 returns-clause-valid c =

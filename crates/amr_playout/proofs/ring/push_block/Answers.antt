@@ -1,4 +1,4 @@
-use Rattle.std.proofs.Common.{◌≡◌, ℕ, ◌+◌, ◌<◌, List, ◌++◌, ◌∷◌, [], length, map, take, drop, replicate, get_or, arith, ap, subst, sym, ◌∙◌, IsTrue, refl}
+use Rattle.std.proofs.Common.{◌≡◌, ℕ, ◌+◌, ◌<◌, List, ◌++◌, ◌∷◌, [], length, map, take, drop, replicate, get_or, arith, ap, subst, sym, ◌∙◌, IsTrue, refl, Option, None}
 use Rattle.std.specs.List.{AllByRecursion}
 use Rattle.std.proofs.lemmas.List.{map_more}
 use Rattle.amr_frame.specs.Blocks.{frames_of}
@@ -61,7 +61,7 @@ returns-clause-items c =
     ap held_of c.loop-at.invariant.items ∙ held-append (drop n xs) (replicate n d)
     ∙ ap (λ os. os ++ held_of (replicate n d)) (held-drop n xs)
     ∙ ap (λ os. drop n (held_of xs) ++ os) (held-replicate n d c.absent-none.ensures.absent)
-    ∙ ap (λ m. drop m (held_of xs) ++ replicate m _) end
+    ∙ ap (λ m. drop m (held_of xs) ++ replicate {A = Option Frame} m None) end
 
 pub returns-clause-valid : goal.returns-clause-valid
 returns-clause-valid c =
