@@ -2,6 +2,7 @@ pub mod CellLists
 pub mod Cells
 pub mod Counts
 pub mod Holding
+pub mod Late
 pub mod Near
 pub mod Out
 pub mod Plans

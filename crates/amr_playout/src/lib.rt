@@ -8,7 +8,7 @@ mod place;
 mod plan;
 mod ring;
 mod session;
-
+mod slide;
 mod take;
 
 pub use frames::Frames;

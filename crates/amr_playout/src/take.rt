@@ -116,6 +116,7 @@ pub fn take_all<P: Frames>(
     requires low { (base ≤ place) ⊎ (base ≤ edge + 1) }
     requires high { place + (blocks_in (rules_in plan.now) (P.value payload.now) - 1) * (P.value payload.now).stride < base + plan.now.window }
     requires small { base < 2 ^ 63 }
+    requires few { length (P.value payload.now).frames ≤ 384 }
     requires whole { length (P.value payload.now).frames % plan.now.profile.channels ≡ 0 }
 
     ensures cells { (a : Accepted) (cs : List Copy) → a.packet.value ≡ P.value payload.now → a.place ≡ at place → IsEdge (rules_in plan.now) a (at edge)

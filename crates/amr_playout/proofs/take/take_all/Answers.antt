@@ -1,7 +1,8 @@
-use Rattle.std.proofs.Common.{◌≡◌, ℕ, ◌+◌, ◌*◌, ◌/◌, ◌%◌, ◌++◌, List, arith, refl, sym, ap, ◌∙◌, slice_index_or}
+use Rattle.std.proofs.Common.{◌≡◌, ℕ, ◌+◌, ◌*◌, ◌-◌, ◌<◌, ◌≤◌, ◌/◌, ◌%◌, ◌++◌, List, length, arith, refl, sym, ap, ◌∙◌, slice_index_or}
+use Rattle.std.proofs.lemmas.Nat.{mul-le}
 use Rattle.amr_frame.specs.Cells.{frame_of}
 use Rattle.amr_frame.specs.Frames.{Frame, no_data}
-use Rattle.amr_playout.proofs.Taking.{frame_more, frame_more_least}
+use Rattle.amr_playout.proofs.Taking.{block_of, frame_more, frame_more_least}
 use Rattle.amr_playout.specs.Copied.{copies_to, newly}
 use Rattle.amr_playout.specs.Plans.{rules_in}
 use Rattle.amr_playout.specs.Window.{at, repeated, window_of}
@@ -42,3 +43,33 @@ loop-index-preserved g c =
       full = step.full ∙ inv.full;
       capacity = step.capacity ∙ inv.capacity;
     }
+
+pub take_in-merged-requires-clause-high : goal.take_in-merged-requires-clause-high
+take_in-merged-requires-clause-high g c =
+    let v : Value = g.P.Frames.value c.args.payload.now in
+    let n : ℕ = c.args.plan.now.profile.channels in
+    let i : ℕ = c.loop-index.index in
+    let s : ℕ = c.stride-stride.result in
+    let count = c.frames-index-end.ensures.count in
+    let stride = c.stride-stride.ensures in
+    let low : i / n ≤ length v.frames / n - 1 = block_of n (length v.frames) i c.requires.channels (let t = c.loop-index-test.true in omega arith) c.requires.whole in
+    let le : (i / n) * s ≤ (length v.frames / n - 1) * s = mul-le (i / n) s (length v.frames / n - 1) s low (omega arith) in
+    let same : (length v.frames / n - 1) * s ≡ (length v.frames / n - 1) * v.stride = ap (λ k. (length v.frames / n - 1) * k) stride in
+    omega (arith, c.requires.high, le, same)
+
+pub take_in-merged-requires-clause-few : goal.take_in-merged-requires-clause-few
+take_in-merged-requires-clause-few g c =
+    let few = c.loop-index.invariant.few in
+    let t = c.loop-index-test.true in
+    let count = c.frames-index-end.ensures.count in
+    let most = c.requires.few in
+    omega arith
+
+pub returns-clause-cells : goal.returns-clause-cells
+returns-clause-cells g c = λ a cs is here edge held.
+    let t = c.loop-index-test.false in
+    let e = c.loop-index.auto.index-end in
+    let count = c.frames-index-end.ensures.count in
+    let size : length (g.P.Frames.value c.args.payload.now).frames ≡ length a.packet.value.frames = ap (λ (w : Value). length w.frames) (sym is) in
+    let end : c.loop-index.index ≡ length a.packet.value.frames = omega (arith, size) in
+    c.loop-index.invariant.cells a cs is here edge held ∙ ap (λ k. window_of (rules_in c.args.plan.now) (cs ++ copies_to (rules_in c.args.plan.now) a k) (at c.args.base)) end
