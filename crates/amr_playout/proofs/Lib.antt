@@ -1,3 +1,4 @@
+pub mod Accepting
 pub mod CellLists
 pub mod Cells
 pub mod Counts
@@ -8,5 +9,6 @@ pub mod Out
 pub mod Plans
 pub mod Ranges
 pub mod Results
+pub mod Sliding
 pub mod Spans
 pub mod Taking

@@ -2,6 +2,7 @@
 //! frame the best of its copies in time, from memory that is reserved at the start.
 #![tactic(auto)]
 
+mod accept;
 mod advance;
 mod frames;
 mod place;

@@ -1,0 +1,1 @@
+use Rattle.amr_playout.proofs.accept.accept.Goals as goal
