@@ -6,6 +6,7 @@ pub mod Holding
 pub mod Late
 pub mod Near
 pub mod Out
+pub mod Payloads
 pub mod Plans
 pub mod Ranges
 pub mod Results

@@ -66,7 +66,7 @@ least_same h k (x ∷ cs) has all le =
     let a : int_min k x.place ≡ int_min h x.place = omega (arith, ints, clamps) in
     ap (λ z. least z cs) a
 
-least_past : (t z : ℤ) (ds : List Copy) → t <ℤ z → Past t ds → t <ℤ least z ds
+pub least_past : (t z : ℤ) (ds : List Copy) → t <ℤ z → Past t ds → t <ℤ least z ds
 least_past t z [] lt all = lt
 least_past t z (d ∷ ds) lt all = least_past t (int_min z d.place) ds (let k = all.0 in omega (arith, ints, clamps)) all.1
 
