@@ -3,6 +3,7 @@ pub mod CellLists
 pub mod Cells
 pub mod Counts
 pub mod Holding
+pub mod Judging
 pub mod Late
 pub mod Near
 pub mod Out

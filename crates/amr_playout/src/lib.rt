@@ -4,7 +4,9 @@
 
 mod accept;
 mod advance;
+mod answers;
 mod frames;
+mod judge;
 mod place;
 mod plan;
 mod ring;
@@ -12,6 +14,7 @@ mod session;
 mod slide;
 mod take;
 
+pub use answers::{Kept, Offered, Taken};
 pub use frames::Frames;
 pub use plan::{Plan, PlanFault};
 pub use session::{Begun, Head};
