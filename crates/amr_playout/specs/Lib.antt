@@ -1,6 +1,7 @@
 pub mod Copied
 pub mod Gains
 pub mod Plans
+pub mod Receiver
 pub mod Refusals
 pub mod Ring
 pub mod Shown

@@ -64,6 +64,8 @@ fn reach_to<B: BlockSink>(
         → Gains B.whole out.old out.new (out_before (rules_in plan.now) before.now cs) (out_to (rules_in plan.now) (at r.horizon) cs (at r.horizon -ℤ pos plan.now.window))) }
     ensures released { IfOk result (λ r. (cs : List Copy) → ShowsBefore (rules_in plan.now) before.now (held_of ring.old.items) cs
         → length (out_to (rules_in plan.now) (at r.horizon) cs (at r.horizon -ℤ pos plan.now.window)) ≡ length (out_before (rules_in plan.now) before.now cs) + r.released) }
+    ensures rise { IfOk result (λ r. (s : Start) → before.now ≡ Some s → s.horizon + r.released ≤ r.horizon) }
+    ensures none { IfOk result (λ r. before.now ≡ None → r.released ≡ 0) }
     ensures part { OnErr result ((cs : List Copy) → ShowsBefore (rules_in plan.now) before.now (held_of ring.old.items) cs
         → GainsPart B.whole B.part out.old out.new (out_before (rules_in plan.now) before.now cs) (out_to (rules_in plan.now) (at (horizon_with before.now last)) cs (at (horizon_with before.now last) -ℤ pos plan.now.window))) }
     ensures ring { IsRing plan.now ring.new }
@@ -131,6 +133,9 @@ pub fn accept<P: Frames, B: BlockSink>(
     ensures horizon { IfOk result (λ s. s.session.horizon ≡ horizon_with before.now (place + (blocks_in (rules_in plan.now) (P.value payload.now) - 1) * (P.value payload.now).stride)) }
     ensures out { OnOk result ((acc : List Accepted) → Holds (rules_in plan.now) before.now (held_of ring.old.items) acc
         → Gains B.whole out.old out.new (sent_of (rules_in plan.now) acc) (sent_of (rules_in plan.now) (acc ++ placed before.now head.now (P.value payload.now) place ∷ []))) }
+    ensures rise { IfOk result (λ s. (t : Start) → before.now ≡ Some t → t.horizon + s.released ≤ s.session.horizon) }
+    ensures none { IfOk result (λ s. before.now ≡ None → s.released ≡ 0) }
+    ensures few { IfOk result (λ s. s.copies ≤ 384) }
     ensures part { OnErr result ((acc : List Accepted) → Holds (rules_in plan.now) before.now (held_of ring.old.items) acc
         → GainsPart B.whole B.part out.old out.new (sent_of (rules_in plan.now) acc) (sent_of (rules_in plan.now) (acc ++ placed before.now head.now (P.value payload.now) place ∷ []))) }
     ensures late { IfOk result (λ s. s.late ≡ late_in (rules_in plan.now) (placed before.now head.now (P.value payload.now) place)) }
