@@ -1,6 +1,6 @@
 -- What accepting a packet changes in what is kept of a session.
 use Rattle.std.proofs.Common.{ℕ, max, ◌+◌, ◌-◌, ◌*◌, ◌/◌, ◌%◌, ◌^◌, ◌<◌, ◌≤◌, ◌≡◌, List, [], ◌∷◌, ◌++◌, length, refl, sym, ap, ◌∙◌, subst, arith, true, Option, Some, None, ℤ, pos, ◌+ℤ◌, ◌-ℤ◌, append_assoc, append-nil, length-append, inl, inr, ◌⊎◌}
-use Rattle.std.specs.Prelude.{◌≤ℤ◌, ◌<ℤ◌, int_lt, option_map}
+use Rattle.std.specs.Prelude.{◌≤ℤ◌, ◌<ℤ◌, int_lt, map, option_map, sum}
 use Rattle.std.specs.Int.{int_max}
 use Rattle.std.specs.List.{AllByRecursion}
 use Rattle.std.proofs.lemmas.Bool.{cases_lt}
@@ -18,12 +18,14 @@ use Rattle.amr_playout.proofs.Plans.{Facts}
 use Rattle.amr_playout.proofs.Taking.{spot_at}
 use Rattle.amr_playout.specs.Plans.{rules_in}
 use Rattle.amr_playout.specs.declared.plan.Plan.{Plan}
-use Rattle.amr_playout.proofs.Out.{late_out, least-le, least_past, none_out, released_now}
+use Rattle.amr_playout.proofs.Out.{late_out, least-le, least_past, least_same, none_out, released_all, released_now}
 use Rattle.session_laws.proofs.Prefix.{Past}
 use Rattle.spec_payload.specs.Values.{Value}
 use Rattle.spec_session.specs.Copies.{Copy, copies_in, copies_of}
-use Rattle.spec_session.specs.Release.{least, released_to}
-use Rattle.spec_session.specs.Session.{Accepted, Rules, blocks_in, greatest_last, horizon_of, last_place}
+use Rattle.spec_session.specs.Release.{blocks_between, least, released_of, released_to}
+use Rattle.spec_session.specs.Session.{Accept, Accepted, Rules, blocks_in, greatest_last, horizon_of, last_place, taken, verdict, with_packet}
+use Rattle.spec_session.specs.Counts.{late_in}
+use Rattle.spec_session.specs.Packets.{Packet}
 
 -- places of a packet that is accepted now are in time past the edge
 pub edge_is : (rules : Rules) (before : Option Begun) (head : Head) (value : Value) (place : ℕ) → 1 ≤ place → ((s : Begun) → before ≡ Some s → rules.window ≤ s.horizon) →
@@ -288,3 +290,37 @@ pub none_goes : (rules : Rules) (before : Option Begun) (cells : List (Option Fr
     out_to rules (at last) cs (at last -ℤ pos rules.window) ≡ out_before rules before cs
 none_goes rules None cells cs last e wide shows = ap (λ ds. out_to rules (at last) ds (at last -ℤ pos rules.window)) shows.0 ∙ none_out rules (at last) wide
 none_goes rules (Some s) cells cs last e wide shows = absurd cc
+
+-- ---- the counts
+
+sum-more : (xs : List ℕ) (x : ℕ) → sum (xs ++ x ∷ []) ≡ sum xs + x
+sum-more [] x = omega arith
+sum-more (y ∷ xs) x = omega (arith, sum-more xs x)
+
+map-more : (f : Accepted → ℕ) (xs : List Accepted) (x : Accepted) → map f (xs ++ x ∷ []) ≡ map f xs ++ f x ∷ []
+map-more f [] x = refl
+map-more f (y ∷ xs) x = ap (λ ns. f y ∷ ns) (map-more f xs x)
+
+pub late_more : (rules : Rules) (acc : List Accepted) (x : Packet) (a : Accepted) → verdict rules acc x ≡ Accept a → sum (map (late_in rules) (with_packet rules acc x)) ≡ sum (map (late_in rules) acc) + late_in rules a
+late_more rules acc x a e =
+    ap (λ v. sum (map (late_in rules) (acc ++ taken v))) e
+    ∙ ap sum (map-more (late_in rules) acc a) ∙ sum-more (map (late_in rules) acc) (late_in rules a)
+
+-- ---- the end
+
+pub rest_is : (rules : Rules) (s : Begun) (cells : List (Option Frame)) (acc : List Accepted) → Holds rules (Some s) cells acc →
+    released_of rules (copies_of rules acc) ≡ out_to rules (at (s.horizon + rules.window)) (copies_of rules acc) (at (s.horizon + rules.window) -ℤ pos rules.window)
+rest_is rules s cells [] holds = absurd holds
+rest_is rules s cells (start ∷ rest) holds =
+    let cs : List Copy = copies_of rules (start ∷ rest) in
+    let h : ℤ = at s.horizon in
+    let up : h ≤ℤ at (s.horizon + rules.window) = omega (arith, ints) in
+    let back : (at (s.horizon + rules.window) -ℤ pos rules.window) ≡ h = omega (arith, ints) in
+    released_all rules h cs holds.some holds.shows.within holds.reaches
+    ∙ ap (λ z. blocks_between rules cs z h) (sym (least_same h (at (s.horizon + rules.window)) cs holds.some holds.shows.within up))
+    ∙ ap (blocks_between rules cs (least (at (s.horizon + rules.window)) cs)) (sym back)
+
+pub none_released : (rules : Rules) (before : Option Begun) (cells : List (Option Frame)) (acc : List Accepted) → before ≡ None → Holds rules before cells acc → released_of rules (copies_of rules acc) ≡ sent_of rules acc
+none_released rules None cells [] e holds = refl
+none_released rules None cells (a ∷ acc) e holds = absurd holds
+none_released rules (Some s) cells acc e holds = absurd cc

@@ -136,6 +136,7 @@ pub fn accept<P: Frames, B: BlockSink>(
     ensures rise { IfOk result (λ s. (t : Start) → before.now ≡ Some t → t.horizon + s.released ≤ s.session.horizon) }
     ensures none { IfOk result (λ s. before.now ≡ None → s.released ≡ 0) }
     ensures few { IfOk result (λ s. s.copies ≤ 384) }
+    ensures fits { IfOk result (λ s. before.now ≡ None → s.session.horizon < place + plan.now.window) }
     ensures part { OnErr result ((acc : List Accepted) → Holds (rules_in plan.now) before.now (held_of ring.old.items) acc
         → GainsPart B.whole B.part out.old out.new (sent_of (rules_in plan.now) acc) (sent_of (rules_in plan.now) (acc ++ placed before.now head.now (P.value payload.now) place ∷ []))) }
     ensures late { IfOk result (λ s. s.late ≡ late_in (rules_in plan.now) (placed before.now head.now (P.value payload.now) place)) }

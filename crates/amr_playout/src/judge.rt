@@ -2,7 +2,7 @@
 ghost use Rattle.std.specs.Prelude.{◌≡◌, ◌+◌, ◌-◌, ◌*◌, ◌^◌, ◌<◌, ◌≤◌, IfErr, IfOk, List, Option, Some};
 ghost use Rattle.amr_frame.specs.Frames.{Frame};
 ghost use Rattle.amr_playout.specs.Plans.{IsPlan, rules_in};
-ghost use Rattle.amr_playout.specs.Refusals.{IsRefusal};
+ghost use Rattle.amr_playout.specs.Refusals.{IsRefusal, OnFault};
 ghost use Rattle.amr_playout.specs.Standing.{Holds, IsInside, packet, placed};
 ghost use Rattle.amr_playout.specs.Window.{at};
 ghost use Rattle.spec_session.specs.Session.{Accept, Accepted, blocks_in, verdict};
@@ -30,6 +30,7 @@ pub fn judge<P: Frames>(
         → verdict (rules_in plan.now) acc (packet head.now (P.value payload.now)) ≡ Accept (placed (Some session.now) head.now (P.value payload.now) u)) }
     ensures refused { IfErr result (λ e. (cells : List (Option Frame)) (acc : List Accepted) → Holds (rules_in plan.now) (Some session.now) cells acc
         → IsRefusal (verdict (rules_in plan.now) acc (packet head.now (P.value payload.now))) e) }
+    ensures no_fault { IfErr result (λ e. OnFault e ⊥) }
     ensures last { IfOk result (λ u. u + (blocks_in (rules_in plan.now) (P.value payload.now) - 1) * (P.value payload.now).stride ≤ session.now.horizon + plan.now.reach) }
     ensures near { IfOk result (λ u. (4096 ≤ u) × (u ≤ session.now.horizon + 2 ^ 24)) }
 {

@@ -11,6 +11,7 @@ mod place;
 mod plan;
 mod receive;
 mod receiver;
+mod rest;
 mod ring;
 mod session;
 mod slide;

@@ -39,6 +39,7 @@ fn seat<P: Frames>(
         → verdict (rules_in plan.now) acc (packet head.now (P.value payload.now)) ≡ Accept (placed before.now head.now (P.value payload.now) u)) }
     ensures refused { IfErr result (λ e. (cells : List (Option Frame)) (acc : List Accepted) → Holds (rules_in plan.now) before.now cells acc
         → IsRefusal (verdict (rules_in plan.now) acc (packet head.now (P.value payload.now))) e) }
+    ensures no_fault { IfErr result (λ e. OnFault e ⊥) }
     ensures first { IfOk result (λ u. before.now ≡ None → u ≡ 2 ^ 24) }
     ensures near { IfOk result (λ u. (4096 ≤ u) × (u < 2 ^ 62 + 2 ^ 30)) }
     ensures reach { IfOk result (λ u. (s : Start) → before.now ≡ Some s

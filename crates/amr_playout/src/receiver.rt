@@ -4,7 +4,9 @@ ghost use Rattle.amr_playout.specs.Gains.{Gains, GainsPart};
 ghost use Rattle.amr_playout.specs.Plans.{IsPlan, rules_in};
 ghost use Rattle.amr_playout.specs.Refusals.{IsRefusal, OnFault, OnRefusal};
 ghost use Rattle.amr_playout.specs.Standing.{IsBelow, packet};
+ghost use Rattle.spec_session.specs.Counts.{block_count};
 ghost use Rattle.spec_session.specs.Packets.{Packet};
+ghost use Rattle.spec_session.specs.Release.{released};
 ghost use Rattle.spec_session.specs.Session.{accepted, horizon, verdict};
 
 use crate::answers::{Kept, Offered, Taken};
@@ -12,9 +14,11 @@ use crate::frames::Frames;
 use crate::judge::shown;
 use crate::plan::Plan;
 use crate::receive::receive;
+use crate::rest::put_rest;
 use crate::ring::absent_ring;
 use crate::session::{Begun, Head};
 use amr_frame::{BlockSink, Cell};
+use amr_io::Failed;
 use circular_buffer::HeapCircularBuffer;
 use std::alloc::{AllocError, Global};
 use std::marker::Model;
@@ -150,5 +154,37 @@ impl Receiver {
             copies: step.copies,
             released: step.released,
         })
+    }
+
+    /// Puts out the rest, tells how many blocks it had, and ends the receiver.
+    pub fn finish<B: BlockSink>(&mut self, out: &mut B) -> Result<u64, Failed>
+        requires unspent { self.old.spent ≡ false }
+        requires sink { (B.codec out.old ≡ self.old.plan.profile.codec) × (B.channels out.old ≡ self.old.plan.profile.channels) }
+        requires ready { IsTrue (B.ready out.old) }
+        requires below { IsBelow self.old.session × (self.old.counts.blocks < 2 ^ 62) }
+
+        ensures out { OnOk result ((h : List Packet) → StandsFor self.old h → Gains B.whole out.old out.new (sent self.old.plan h) (released (rules_in self.old.plan) h)) }
+        ensures count { IfOk result (λ n. (h : List Packet) → StandsFor self.old h → length (released (rules_in self.old.plan) h) ≡ length (sent self.old.plan h) + n) }
+        ensures counts { IfOk result (λ n. self.new.counts ≡ record {
+          late = self.old.counts.late;
+          copies = self.old.counts.copies;
+          blocks = self.old.counts.blocks + n;
+        }) }
+        ensures all { OnOk result ((h : List Packet) → StandsFor self.old h → self.new.counts.blocks ≡ block_count (rules_in self.old.plan) h) }
+
+        ensures part { OnErr result ((h : List Packet) → StandsFor self.old h → GainsPart B.whole B.part out.old out.new (sent self.old.plan h) (released (rules_in self.old.plan) h)) }
+        ensures counts_kept { OnErr result (self.new.counts ≡ self.old.counts) }
+
+        ensures spent { self.new.spent ≡ true }
+        ensures plan { self.new.plan ≡ self.old.plan }
+        ensures room { length self.new.cells ≡ self.new.plan.window * self.new.plan.profile.channels }
+        ensures cause { HasCause (B.faults out.old) (B.faults out.new) result }
+        ensures same { B.same out.old out.new }
+        ensures kept { OnOk result ((B.ready out.new ≡ true) × (B.codec out.new ≡ B.codec out.old) × (B.channels out.new ≡ B.channels out.old)) }
+    {
+        self.spent = true;
+        let count = put_rest(&mut self.ring, &self.plan, &self.session, out)?;
+        self.counts.blocks += count;
+        Ok(count)
     }
 }

@@ -125,3 +125,9 @@ returns-clause-released g c = λ acc holds.
     let after = ap length (sent_after rules before old acc c.args.head.now (g.P.Frames.value c.args.payload.now) c.args.place c.last_of-last.result c.in_ok-reached.reached.horizon s.step holds) in
     let sent = ap length (before_sent rules before old acc holds) in
     omega (arith, count, after, sent)
+
+pub returns-clause-fits : goal.returns-clause-fits
+returns-clause-fits g c = λ e.
+    let l = c.last_of-last.ensures.fits in
+    let same : c.in_ok-reached.reached.horizon ≡ c.last_of-last.result = c.in_ok-reached.ensures.horizon ∙ ap (λ b. horizon_with b c.last_of-last.result) e in
+    omega arith
