@@ -4,6 +4,7 @@ use Rattle.std.specs.Prelude.{◌≤ℤ◌, ◌<ℤ◌, int_lt, map, option_map,
 use Rattle.std.specs.Int.{int_max}
 use Rattle.std.specs.List.{AllByRecursion}
 use Rattle.std.proofs.lemmas.Bool.{cases_lt}
+use Rattle.std.proofs.lemmas.List.Sums.{sum_by-append}
 use Rattle.std.proofs.lemmas.Int.{ints, clamps}
 use Rattle.amr_frame.specs.Frames.{Frame}
 use Rattle.amr_playout.specs.Copied.{IsEdge}
@@ -294,8 +295,9 @@ none_goes rules (Some s) cells cs last e wide shows = absurd cc
 -- ---- the counts
 
 sum-more : (xs : List ℕ) (x : ℕ) → sum (xs ++ x ∷ []) ≡ sum xs + x
-sum-more [] x = omega arith
-sum-more (y ∷ xs) x = omega (arith, sum-more xs x)
+sum-more xs x =
+    let one : sum (x ∷ []) ≡ x = omega arith in
+    sum_by-append (λ (n : ℕ). n) xs (x ∷ []) ∙ ap (λ n. sum xs + n) one
 
 map-more : (f : Accepted → ℕ) (xs : List Accepted) (x : Accepted) → map f (xs ++ x ∷ []) ≡ map f xs ++ f x ∷ []
 map-more f [] x = refl

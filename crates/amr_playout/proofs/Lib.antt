@@ -5,7 +5,6 @@ pub mod Counts
 pub mod Holding
 pub mod Judging
 pub mod Late
-pub mod Near
 pub mod Out
 pub mod Payloads
 pub mod Plans
