@@ -6,8 +6,9 @@ use mathlib.Core.HLevel.{is_prop→PathP}
 use Rattle.std.specs.Coded.{le_prop}
 use Rattle.std.proofs.Math.Bool.{Bool-set}
 use Rattle.amr_bits.specs.declared.fixed.FixedBits.{FixedBits, within-type}
-use Rattle.amr_bits.specs.Bits.{number, bit_at, bits_at}
-use Rattle.amr_bits.proofs.Runs.{run-same, run-get}
+use Rattle.amr_bits.specs.Bits.{number, bit_at, bits_at, filled}
+use Rattle.amr_bits.proofs.Runs.{run-same, run-get, length-run}
+use Rattle.amr_bits.proofs.Filled.{bits-filled, filled-past, filled-lt}
 use Rattle.amr_bits.proofs.Places.{number_at-octet}
 
 -- octets with the same bits are the same
@@ -32,3 +33,12 @@ same_value {N} a b p q = λ i. record {
   within = is_prop→PathP (λ j. within-type N (p j) (q j)) (λ j. hlevel le_prop) a.within b.within i;
   clear = is_prop→PathP (λ j. (k : ℕ) → q j ≤ k → bit_at (p j) k ≡ false) (λ j. hlevel (Bool-set, le_prop)) a.clear b.clear i;
 }
+
+-- octets that hold so many bits, and zeros behind, begin with the octets that the bits fill
+pub octet_is : (octets : List ℕ) (n k : ℕ) → ((i : ℕ) → get_or octets i 0 < 256) → ((i : ℕ) → n ≤ i → bit_at octets i ≡ false) → get_or octets k 0 ≡ get_or (filled (bits_at octets 0 n)) k 0
+octet_is octets n k small clear =
+    let bits = bits_at octets 0 n in
+    let size : length bits ≡ n = length-run octets 0 n in
+    let front : bits_at octets 0 n ≡ bits_at (filled bits) 0 n = sym (bits-filled bits) ∙ ap (bits_at (filled bits) 0) size in
+    let same : (i : ℕ) → bit_at octets i ≡ bit_at (filled bits) i = same_everywhere octets (filled bits) n front clear (λ i h. filled-past bits i (omega (arith, h, size))) in
+    sym (number_at-octet octets k (small k)) ∙ ap number (run-same octets (filled bits) (8 * k) (8 * k) 8 (λ i h. same (8 * k + i))) ∙ number_at-octet (filled bits) k (filled-lt bits k)

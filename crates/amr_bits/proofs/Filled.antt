@@ -2,12 +2,12 @@
 use Rattle.std.proofs.Common.{◌≡◌, ℕ, zero, suc, ◌+◌, ◌-◌, ◌*◌, ◌^◌, ◌<◌, ◌≤◌, Bool, false, List, [], ◌∷◌, ◌++◌, length, take, drop, map, replicate, get_or, sym, refl, ap, ◌∙◌, arith, inl, inr}
 use Rattle.std.specs.List.{range_with_len}
 use Rattle.std.proofs.lemmas.Bool.{cases_lt}
-use Rattle.std.proofs.lemmas.List.{length-append, append_assoc, append-nil, take_at, drop_at, drop-drop, take-replicate, take-append-drop, length-replicate, length-take-le, length-drop, get_or-append_right, get_or-replicate}
-use Rattle.std.proofs.lemmas.List.FromFn.{length-map-range_with_len}
-use Rattle.std.proofs.Math.Nat.{zero-add, mod-eq_of_lt}
+use Rattle.std.proofs.lemmas.List.{length-append, append_assoc, append-nil, take_at, drop_at, drop-drop, take-replicate, take-append-drop, length-replicate, length-take-le, length-drop, get_or-append_right, get_or-replicate, length-take, get_or_past}
+use Rattle.std.proofs.lemmas.List.FromFn.{length-map-range_with_len, get_or-map-range_with_len}
+use Rattle.std.proofs.Math.Nat.{zero-add, mod-eq_of_lt, pow-le-pow_right}
 use Rattle.std.proofs.Math.Seq.{take-append-add}
 use Rattle.amr_bits.specs.Bits.{nat, number, bit_at, bits_at, number_at, part, octets_for, filled}
-use Rattle.amr_bits.proofs.Numbers.{nat-number, number-nat, number-append, number-zeros, length-nat}
+use Rattle.amr_bits.proofs.Numbers.{nat-number, number-nat, number-append, number-zeros, length-nat, number-lt}
 use Rattle.amr_bits.proofs.Runs.{run-split, run-front, run-octet, run-drop, run-get, length-run, bit_at-past}
 
 -- one octet of them
@@ -152,3 +152,14 @@ filled-run octets s (suc m) r =
     ∙ ap (λ xs. number_at octets (8 * 0 + s) 8 ∷ xs) (filled-run octets (s + 8) m r
     ∙ ap (λ xs. xs ++ filled (bits_at octets (s + 8 + 8 * m) r)) (map-shift (λ k. number_at octets (8 * k + (s + 8)) 8) (λ k. number_at octets (8 * k + s) 8) 0 1 m (λ k. ap (λ t. number_at octets t 8) (omega arith)))
     ∙ ap (λ t. map (λ k. number_at octets (8 * k + s) 8) (range_with_len 1 m) ++ filled (bits_at octets t r)) there)
+
+pub filled-lt : (bits : List Bool) (k : ℕ) → get_or (filled bits) k 0 < 256
+filled-lt bits k =
+    let xs = part (8 * k) 8 (bits ++ replicate 7 false) in
+    let size : length xs ≤ 8 = omega (arith, length-take 8 (drop (8 * k) (bits ++ replicate 7 false))) in
+    let small : number xs < 2 ^ length xs = number-lt xs in
+    let top : 2 ^ length xs ≤ 2 ^ 8 = pow-le-pow_right (omega arith) size in
+    elim (cases_lt k (octets_for (length bits))) [
+      | inl within ↦ rw (get_or-map-range_with_len (octet_of bits) 0 (octets_for (length bits)) k k 0 within (zero-add k)) (omega (arith, small, top))
+      | inr past ↦ rw (get_or_past (filled bits) k 0 (omega (arith, past, length-filled bits))) (omega arith)
+    ]

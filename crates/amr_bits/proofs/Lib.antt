@@ -4,3 +4,4 @@ pub mod Filled
 pub mod Places
 pub mod Copied
 pub mod Equal
+pub mod Joined

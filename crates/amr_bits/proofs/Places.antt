@@ -1,9 +1,9 @@
 -- Numbers that stand inside octets.
-use Rattle.std.proofs.Common.{◌≡◌, ℕ, zero, suc, ◌+◌, ◌-◌, ◌*◌, ◌/◌, ◌%◌, ◌^◌, ◌<◌, ◌≤◌, List, ◌++◌, length, get_or, bit_or, sym, refl, ap, ◌∙◌, arith}
+use Rattle.std.proofs.Common.{◌≡◌, ℕ, zero, suc, ◌+◌, ◌-◌, ◌*◌, ◌/◌, ◌%◌, ◌^◌, ◌<◌, ◌≤◌, List, ◌++◌, length, get_or, bit_or, sym, refl, ap, ◌∙◌, arith, ◌∷◌, []}
 use Rattle.std.proofs.Math.Nat.{mod-eq_of_lt}
 use Rattle.std.proofs.lemmas.Nat.{or_shifted}
-use Rattle.amr_bits.specs.Bits.{number, bits_at, number_at}
-use Rattle.amr_bits.proofs.Numbers.{number-middle, number-append, number-nat, number-lt}
+use Rattle.amr_bits.specs.Bits.{number, bits_at, number_at, nat}
+use Rattle.amr_bits.proofs.Numbers.{number-middle, number-append, number-nat, number-lt, length-nat, same_bits}
 use Rattle.amr_bits.proofs.Runs.{run-split, run-octet, length-run}
 
 -- a number inside a longer one, with c bits behind it
@@ -45,3 +45,26 @@ shifts_join (suc (suc (suc (suc (suc zero))))) a b l h small under = ap (λ (x :
 shifts_join (suc (suc (suc (suc (suc (suc zero)))))) a b l h small under = ap (λ (x : ℕ). bit_or x (b / 4)) (omega arith) ∙ or_shifted (a % 4) 6 (b / 4) (omega arith) ∙ omega arith
 shifts_join (suc (suc (suc (suc (suc (suc (suc zero))))))) a b l h small under = ap (λ (x : ℕ). bit_or x (b / 2)) (omega arith) ∙ or_shifted (a % 2) 7 (b / 2) (omega arith) ∙ omega arith
 shifts_join (suc (suc (suc (suc (suc (suc (suc (suc n)))))))) a b l h small under = absurd (omega arith)
+
+-- the octets of a number below 2 ^ 32, the most significant first
+abbrev pub four : ℕ → List ℕ
+four v = v / 16777216 % 256 ∷ v / 65536 % 256 ∷ v / 256 % 256 ∷ v % 256 ∷ []
+
+sums : (v a b c d : ℕ) → v < 2 ^ 32 → a ≡ v / 16777216 % 256 → b ≡ 256 * a + v / 65536 % 256 → c ≡ 256 * b + v / 256 % 256 → d ≡ 256 * c + v % 256 → d ≡ v
+sums v a b c d h one two three all = omega (arith, one, two, three, all)
+
+number_at-four : (v : ℕ) → v < 2 ^ 32 → number_at (four v) 0 32 ≡ v
+number_at-four v h =
+    let one : number_at (four v) 0 8 ≡ v / 16777216 % 256 = number_at-octet (four v) 0 (omega arith) in
+    let two : number_at (four v) 0 16 ≡ 256 * number_at (four v) 0 8 + v / 65536 % 256 = number_at-more (four v) 0 8 1 refl (omega arith) in
+    let three : number_at (four v) 0 24 ≡ 256 * number_at (four v) 0 16 + v / 256 % 256 = number_at-more (four v) 0 16 2 refl (omega arith) in
+    let all : number_at (four v) 0 32 ≡ 256 * number_at (four v) 0 24 + v % 256 = number_at-more (four v) 0 24 3 refl (omega arith) in
+    sums v (number_at (four v) 0 8) (number_at (four v) 0 16) (number_at (four v) 0 24) (number_at (four v) 0 32) h one two three all
+
+-- the last bits of these octets
+pub bits-four : (v width : ℕ) → v < 2 ^ 32 → v < 2 ^ width → width ≤ 32 → bits_at (four v) (32 - width) width ≡ nat width v
+bits-four v width h small fits =
+    let value : number_at (four v) (32 - width) width ≡ v % 2 ^ width =
+    ap (λ t. number_at (four v) t width) (omega arith) ∙ number_at-within (four v) 0 32 (32 - width) width 0 (omega arith)
+    ∙ ap (λ (x : ℕ). x / 1 % 2 ^ width) (number_at-four v h) ∙ ap (λ (x : ℕ). x % 2 ^ width) (omega arith) in
+    same_bits (bits_at (four v) (32 - width) width) (nat width v) (length-run (four v) (32 - width) width ∙ sym (length-nat width v)) (value ∙ sym (number-nat width v))

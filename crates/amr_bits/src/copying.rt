@@ -1,10 +1,10 @@
-ghost use Rattle.std.specs.Prelude.{◌≡◌, ℕ, ◌+◌, ◌*◌, ◌/◌, ◌%◌, ◌^◌, ◌-◌, ◌≤◌, ◌<◌, length, map};
+ghost use Rattle.std.specs.Prelude.{◌≡◌, ℕ, ◌+◌, ◌*◌, ◌/◌, ◌%◌, ◌^◌, ◌-◌, ◌≤◌, ◌<◌, length, map, slice_index};
 ghost use Rattle.std.specs.List.{range_with_len};
-ghost use Rattle.amr_bits.specs.Bits.{number_at, octets_for as octets_needed};
+ghost use Rattle.amr_bits.specs.Bits.{number_at, octets_for};
 
 /// How many octets hold so many bits.
-pub fn octets_for(bits: usize) -> usize
-    ensures { result ≡ octets_needed bits }
+pub fn octets_needed(bits: usize) -> usize
+    ensures { result ≡ octets_for bits }
 {
     bits / 8 + (bits % 8 + 7) / 8
 }
@@ -17,7 +17,7 @@ pub fn number_from(octets: &[u8], start: usize, width: usize) -> u32
     ensures bits { result ≡ number_at octets.now start width }
     ensures below { result < 2 ^ width }
 {
-    let count = octets_for(start + width);
+    let count = octets_needed(start + width);
     let mut value = 0u64;
     for at in 0..count {
         value = 256 * value + octets[at] as u64;
@@ -59,3 +59,8 @@ fn across(first: u8, second: u8, shift: u32) -> u8
 {
     first << shift | second >> (8 - shift)
 }
+
+/// Each octet is below 256. Says so, and does nothing.
+pub fn are_octets(octets: &[u8])
+    ensures { (k : ℕ) → slice_index octets.now k < 256 }
+{}

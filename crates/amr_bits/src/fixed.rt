@@ -1,7 +1,7 @@
 ghost use Rattle.std.specs.Prelude.{◌≡◌, ℕ, ◌+◌, ◌*◌, ◌/◌, ◌≤◌, ◌<◌, ◌↔◌, [], length, false, slice_index};
 ghost use Rattle.amr_bits.specs.Bits.{bit_at};
 
-use crate::copying::octets_for;
+use crate::copying::{are_octets, octets_needed};
 use crate::slice::BitSlice;
 
 /// Up to `8 * N` bits, kept by value; the bits of the octets past `len` are 0.
@@ -35,7 +35,7 @@ impl<const N: usize> FixedBits<N> {
         ensures len { result.len ≡ bits.entry.len }
     {
         let mut octets = [0; N];
-        bits.copy_to(&mut octets[..octets_for(bits.len)]);
+        bits.copy_to(&mut octets[..octets_needed(bits.len)]);
         FixedBits {
             octets,
             len: bits.len,
@@ -54,8 +54,10 @@ impl<const N: usize> FixedBits<N> {
     /// Octet `at` of the bits, filled with zero bits.
     pub fn octet(&self, at: usize) -> u8
         requires { at < N }
-        ensures { result ≡ slice_index self.now.octets at }
+        ensures field { result ≡ slice_index self.now.octets at }
+        ensures bits { result ≡ slice_index (filled (kept self.now)) at }
     {
+        are_octets(&self.octets);
         self.octets[at]
     }
 

@@ -5,6 +5,10 @@
 mod copying;
 mod fixed;
 mod slice;
+#[cfg(test)]
+mod tests;
+mod writer;
 
 pub use fixed::FixedBits;
 pub use slice::BitSlice;
+pub use writer::BitWriter;

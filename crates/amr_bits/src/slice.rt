@@ -13,14 +13,14 @@ pub struct BitSlice<'a> {
 }
 
 impl<'a> BitSlice<'a> {
-    ghost use Rattle.amr_bits.specs.Bits.{bit_at, bits_of, filled, number as number_of, octets_for as octets_needed, part as part_of};
+    ghost use Rattle.amr_bits.specs.Bits.{bit_at, bits_of, filled, number, octets_for, part};
     ghost use Rattle.amr_bits.specs.Runs.{run};
 
     /// The `len` bits of the octets from bit `start` on; `None` where they are not all there.
     pub fn of(octets: &'a [u8], start: usize, len: usize) -> Option<BitSlice<'a>>
         ensures none { IsNone result ↔ (8 * length octets.now < start + len) }
         ensures fields { IfSome result (λ s. (s.octets.now ≡ octets.now) × (s.start ≡ start) × (s.len ≡ len)) }
-        ensures bits { IfSome result (λ s. run s ≡ part_of start len (bits_of octets.now)) }
+        ensures bits { IfSome result (λ s. run s ≡ part start len (bits_of octets.now)) }
     {
         // The number of bits of a slice can pass usize.
         if start as u128 + len as u128 <= octets.len() as u128 * 8 {
@@ -53,7 +53,7 @@ impl<'a> BitSlice<'a> {
     /// which the part begins or the one before it.
     pub fn part(&self, from: usize, len: usize) -> BitSlice<'a>
         requires { from + len ≤ self.now.len }
-        ensures bits { run result ≡ part_of from len (run self.now) }
+        ensures bits { run result ≡ part from len (run self.now) }
         ensures len { result.len ≡ len }
         ensures start { result.start ≡ self.now.start % 8 + from % 8 }
         ensures lent { result.octets.now ≡ drop (self.now.start / 8 + from / 8) self.now.octets.now }
@@ -70,7 +70,7 @@ impl<'a> BitSlice<'a> {
     pub fn number(&self, from: usize, width: u32) -> u32
         requires width { width ≤ 32 }
         requires fits { from + width ≤ self.now.len }
-        ensures bits { result ≡ number_of (part_of from width (run self.now)) }
+        ensures bits { result ≡ number (part from width (run self.now)) }
         ensures below { result < 2 ^ width }
     {
         let place = self.start % 8 + from % 8;
@@ -84,7 +84,7 @@ impl<'a> BitSlice<'a> {
     /// Copies the run to the front of `out`, which has just the octets needed; the bits of the last
     /// octet behind the run become 0.
     pub fn copy_to(&self, out: &mut [u8])
-        requires { length out.old ≡ octets_needed self.now.len }
+        requires { length out.old ≡ octets_for self.now.len }
         ensures { out.new ≡ filled (run self.now) }
     {
         let whole = self.len / 8;

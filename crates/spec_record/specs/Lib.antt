@@ -1,2 +1,3 @@
 pub mod FirstStage
+pub mod RecordCounts
 pub mod Recording

@@ -1,6 +1,5 @@
 -- What recording a packet log writes, and how it ends, for a whole input and a limit of octets.
-use Rattle.std.specs.Prelude.{ℕ, nat_lt, List, [], ◌∷◌, length, take, ℤ, pos, ◌-ℤ◌, Option, None, Some}
-use Rattle.amr_frame.specs.First.{when, first}
+use Rattle.std.specs.Prelude.{ℕ, cond, nat_lt, List, [], ◌∷◌, length, take, ℤ, pos, ◌-ℤ◌, Option, None, Some}
 use Rattle.amr_frame.specs.declared.profile.Profile.{Profile}
 use Rattle.spec_packet.specs.Log.{cut}
 use Rattle.spec_record.specs.FirstStage.{built, is_cut_short}
@@ -43,7 +42,7 @@ rest_of limit input = (cut (take limit input)).rest
 
 -- what is written for an input
 abbrev pub output_of : Recording → ℕ → List ℕ → List ℕ
-output_of r limit input = file_of r (built r.profile r.asked r.rules (records_of limit input))
+output_of r limit input = file_of r (built r.profile r.asked (records_of limit input))
 
 -- how a recording ends without a fault
 pub data End : Type 0 where
@@ -52,14 +51,13 @@ pub data End : Type 0 where
   LogCut : (have : ℕ) → End
   Done : End
 
-abbrev or_done : Option End → End
-or_done None = Done
-or_done (Some end) = end
+-- the end by what is left behind the last record
+abbrev pub rest_end : List ℕ → End
+rest_end [] = Done
+rest_end (o ∷ rest) = LogCut (length (o ∷ rest))
 
--- the first that holds: a record isn't built yet, the input is longer than the limit, the log is cut inside a
--- record, or all was read
+-- the first that holds: a record isn't taken yet, the input is longer than the limit, the log is cut inside a record, or
+-- all was read
 abbrev pub end_of : Recording → ℕ → List ℕ → End
-end_of r limit input = or_done (first (
-    when (is_cut_short r.profile r.asked r.rules (records_of limit input)) NotBuilt
-    ∷ when (nat_lt limit (length input)) LimitReached
-    ∷ when (nat_lt 0 (length (rest_of limit input))) (LogCut (length (rest_of limit input))) ∷ []))
+end_of r limit input = cond (is_cut_short r.profile r.asked (records_of limit input)) NotBuilt
+    (cond (nat_lt limit (length input)) LimitReached (rest_end (rest_of limit input)))

@@ -26,6 +26,4 @@ pub fn recordings_end()
     ensures cut_short { end_of (recording packed 1) (2 ^ 40) (zeros 15) ≡ LogCut 1 }
     ensures repeated { end_of (recording packed 1) (2 ^ 40) (rec 0 0 seven ++ rec 0 0 seven) ≡ NotBuilt }
     ensures repeated_output { output_of (recording packed 1) (2 ^ 40) (rec 0 0 seven ++ rec 0 0 seven) ≡ magic ++ 0x3C ∷ zeros 31 }
-    ensures extended { end_of (recording packed 1) (2 ^ 40) (0x00 ∷ 0x2C ∷ 0x90 ∷ 0x60 ∷ zeros 10 ++ seven) ≡ NotBuilt }
-    ensures extended_output { output_of (recording packed 1) (2 ^ 40) (0x00 ∷ 0x2C ∷ 0x90 ∷ 0x60 ∷ zeros 10 ++ seven) ≡ magic }
 {}

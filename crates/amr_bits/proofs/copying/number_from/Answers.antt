@@ -25,8 +25,8 @@ loop-at-preserved c =
 
 pub returns-clause-bits : goal.returns-clause-bits
 returns-clause-bits c =
-    let count = c.octets_for-count.result in
-    let is : count ≡ (c.args.start + c.args.width + 7) / 8 = c.octets_for-count.ensures in
+    let count = c.octets_needed-count.result in
+    let is : count ≡ (c.args.start + c.args.width + 7) / 8 = c.octets_needed-count.ensures in
     let all : c.loop-at.at ≡ count = omega arith in
     let value : c.loop-at.value ≡ number_at c.args.octets.now 0 (8 * count) = c.loop-at.invariant ∙ ap (λ (n : ℕ). number_at c.args.octets.now 0 (8 * n)) all in
     cut_out c.args.octets.now c.args.start c.args.width count (8 * count - c.args.start - c.args.width) c.loop-at.value c.requires.width (omega arith) value

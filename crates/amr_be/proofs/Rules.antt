@@ -1,0 +1,114 @@
+-- The first rule that a bandwidth-efficient payload breaks, by the table that is read of it.
+use Rattle.std.proofs.Common.{◌≡◌, ℕ, ◌+◌, ◌*◌, ◌%◌, ◌<◌, ◌≤◌, Bool, true, false, eqb, ltb, List, [], ◌∷◌, length, map, refl, ap, ◌∙◌, sym, subst, arith, Option, Some, None}
+use Rattle.std.specs.Prelude.{sum, ◌⊎◌, Ok}
+use Rattle.std.proofs.lemmas.Bool.{eq-eqb, ne_eqb, lt-ltb, le-ltb, ltb-false}
+use Rattle.std.proofs.lemmas.List.{length-map}
+use Rattle.amr_bits.specs.Bits.{bits_at, octets_for}
+use Rattle.amr_frame.specs.declared.codec.Codec.{Codec}
+use Rattle.amr_frame.specs.declared.profile.Profile.{Profile}
+use Rattle.amr_frame.specs.First.{when, first}
+use Rattle.amr_frame.specs.Profiles.{IsValid}
+use Rattle.amr_frame.specs.Tables.{bits_in}
+use Rattle.amr_be.specs.Needs.{misfit, need_by}
+use Rattle.amr_toc.specs.declared.entry.Entry.{Entry}
+use Rattle.amr_toc.specs.Lists.{types_of, toc_at}
+use Rattle.amr_toc.specs.Table.{table_of, table_refusal, fault_of, last_of}
+use Rattle.amr_toc.proofs.InPayload.{last_same, last_fault, table_same}
+use Rattle.amr_toc.proofs.Shown.{types_same}
+use Rattle.payload_laws.proofs.Formats.{plain, plain_of, plain_is, first_none, when_none}
+use Rattle.spec_payload.specs.declared.refusal.PayloadRefusal.{PayloadRefusal}
+use Rattle.spec_payload.specs.declared.refusal.PayloadRefusal.TheVariants as why
+use Rattle.spec_payload.specs.Reading.{entries, types, entry_fault, last_entry, need, payload_refusal, read_as, value_at, checks_at}
+use Rattle.spec_payload.specs.Seen.{seen}
+
+-- the first of the rules, where one holds
+at_empty : (e : Bool) (x : PayloadRefusal) (os : List (Option PayloadRefusal)) → e ≡ true → first (when e x ∷ os) ≡ Some x
+at_empty e x os h = rw h refl
+
+at_table : (e : Bool) (x r : PayloadRefusal) (o t : Option PayloadRefusal) (os : List (Option PayloadRefusal)) → e ≡ false → first (o ∷ t ∷ []) ≡ Some r → first (when e x ∷ None ∷ None ∷ o ∷ t ∷ os) ≡ Some r
+at_table true x r o t os h f = absurd cc
+at_table false x r None None os h f = absurd cc
+at_table false x r None (Some y) os h f = f
+at_table false x r (Some y) t os h f = f
+
+at_misfit : (e : Bool) (x r : PayloadRefusal) (o t : Option PayloadRefusal) (os : List (Option PayloadRefusal)) → e ≡ false → first (o ∷ t ∷ []) ≡ None → first os ≡ Some r → first (when e x ∷ None ∷ None ∷ o ∷ t ∷ None ∷ os) ≡ Some r
+at_misfit e x r o t os h f g =
+    let a = first_none o (t ∷ []) f in
+    let b = first_none t [] a.1 in
+    rw (h, a.0, b.0) g
+
+at_none : (e d l : Bool) (x z y : PayloadRefusal) (o t : Option PayloadRefusal) → e ≡ false → first (o ∷ t ∷ []) ≡ None → d ≡ false → l ≡ false → first (when e x ∷ None ∷ None ∷ o ∷ t ∷ None ∷ when d z ∷ when l y ∷ []) ≡ None
+at_none e d l x z y o t h f g k =
+    let a = first_none o (t ∷ []) f in
+    let b = first_none t [] a.1 in
+    rw (h, a.0, b.0, g, k) refl
+
+-- the rules of a payload, of which the first n bits behind the header are read for the table
+pub record Rules (p : Profile) (octets : List ℕ) (n : ℕ) : Type 0 where
+  pub table : (r : PayloadRefusal) → 0 < length octets → table_refusal p 6 (bits_at octets 4 n) ≡ Some r → payload_refusal p octets ≡ Some r
+  pub listed : table_refusal p 6 (bits_at octets 4 n) ≡ None → table_of p 6 (bits_at octets 4 n) ≡ toc_at p octets
+  pub unfit : (r : PayloadRefusal) → 0 < length octets → table_refusal p 6 (bits_at octets 4 n) ≡ None → misfit (need p (types p octets)) (length octets) ≡ Some r → payload_refusal p octets ≡ Some r
+  pub none : 0 < length octets → table_refusal p 6 (bits_at octets 4 n) ≡ None → need p (types p octets) ≡ length octets → payload_refusal p octets ≡ None
+  pub size : (es : List Entry) → es ≡ toc_at p octets → need_by p.codec es ≡ need p (types p octets)
+
+module _ (codec : Codec) (c m : ℕ) (octets : List ℕ) (n : ℕ) (fits : 4 + n ≤ 8 * length octets) (enough : (4 + n ≡ 8 * length octets) ⊎ (3080 ≤ n)) (few : m * c ≤ 384) where
+  abbrev p : Profile
+  p = plain codec c m
+
+  abbrev bits : List Bool
+  bits = bits_at octets 4 n
+
+  -- the rules of the table
+  same : table_refusal p 6 bits ≡ first (entry_fault p octets (last_entry p octets) ∷ when (ltb 0 (entries p octets % c)) (why.ChannelRest (entries p octets)) ∷ [])
+  same = λ i. first (last_fault p octets n fits enough few i ∷ when (ltb 0 ((last_same p octets n fits enough few i + 1) % c)) (why.ChannelRest (last_same p octets n fits enough few i + 1)) ∷ [])
+
+  -- there is an octet
+  some : 0 < length octets → eqb (length octets) 0 ≡ false
+  some h = ne_eqb (length octets) 0 (λ e. omega arith)
+
+  rules_plain : Rules p octets n
+  rules_plain =
+      let fts = types p octets in
+      let need_is = need p fts in
+      let have = length octets in
+      let fault = entry_fault p octets (last_entry p octets) in
+      let rest = when (ltb 0 (entries p octets % c)) (why.ChannelRest (entries p octets)) in
+      record {
+        table = λ r h e. at_table (eqb have 0) why.Empty r fault rest _ (some h) (sym same ∙ e);
+        listed = λ e. table_same p octets n fits enough few (first_none (fault_of p 6 bits (last_of p 6 bits)) _ e).0;
+        unfit = λ r h e l. at_misfit (eqb have 0) why.Empty r fault rest _ (some h) (sym same ∙ e) l;
+        none = λ h e l. at_none (eqb have 0) (ltb have need_is) (ltb need_is have) why.Empty (why.BodyShort need_is have) (why.BodyLong need_is have) fault rest (some h) (sym same ∙ e) (le-ltb have need_is (omega arith)) (le-ltb need_is have (omega arith));
+        size = λ es e.
+            let ts : types_of es ≡ fts = ap types_of e ∙ types_same p octets in
+            let l : length es ≡ length fts = sym (length-map es (λ (x : Entry). x.ft)) ∙ ap length ts in
+            let s : sum (map (bits_in codec) (types_of es)) ≡ sum (map (bits_in codec) fts) = ap (λ t. sum (map (bits_in codec) t)) ts in
+            ap octets_for (omega arith);
+      }
+
+-- the rules of each bandwidth-efficient format
+pub rules : (p : Profile) (octets : List ℕ) (n : ℕ) → IsValid p → p.octet_aligned ≡ false → 4 + n ≤ 8 * length octets → (4 + n ≡ 8 * length octets) ⊎ (3080 ≤ n) → p.max_blocks * p.channels ≤ 384 → Rules p octets n
+rules p octets n valid packed fits enough few =
+    subst (λ q. Rules q octets n) (plain_is p (plain_of p valid packed)) (rules_plain p.codec p.channels p.max_blocks octets n fits enough few)
+
+-- no octet is refused as none
+pub empty_is : (p : Profile) (octets : List ℕ) → length octets ≡ 0 → payload_refusal p octets ≡ Some why.Empty
+empty_is p octets e = at_empty (eqb (length octets) 0) why.Empty _ (eq-eqb (length octets) 0 e)
+
+-- a number that isn't 0
+pub above : (n : ℕ) → (n ≡ 0 → ⊥) → 0 < n
+above n h = omega (arith, h)
+
+-- octets that fit are as many as needed
+pub exactly : (n have : ℕ) → misfit n have ≡ None → n ≡ have
+exactly n have e =
+    let f = first_none (when (ltb have n) (why.BodyShort n have)) _ e in
+    let g = first_none (when (ltb n have) (why.BodyLong n have)) [] f.1 in
+    let a = ltb-false have n (when_none (ltb have n) (why.BodyShort n have) f.0) in
+    let b = ltb-false n have (when_none (ltb n have) (why.BodyLong n have) g.0) in
+    omega arith
+
+-- what octets that aren't refused say
+pub read_is : (p q : Profile) (octets others : List ℕ) → payload_refusal p octets ≡ None → q ≡ p → others ≡ octets → read_as p octets ≡ Ok (seen q (value_at q others) (checks_at q others))
+read_is p q octets others none e f =
+    let this : read_as p octets ≡ Ok (seen p (value_at p octets) (checks_at p octets)) = rw none refl in
+    this ∙ ap Ok (λ i. seen (sym e i) (value_at (sym e i) (sym f i)) (checks_at (sym e i) (sym f i)))

@@ -1,0 +1,100 @@
+ghost use Rattle.std.specs.Prelude.{◌≡◌, ◌+◌, ◌*◌, ◌≤◌, ◌<◌, ◌⊎◌, IfErr, IfOk, false, length};
+ghost use Rattle.amr_bits.specs.Bits.{bits_at};
+ghost use Rattle.amr_bits.specs.Runs.{run};
+ghost use Rattle.amr_be.specs.Needs.{misfit, need_by};
+
+ghost use Rattle.amr_frame.specs.Profiles.{IsValid};
+ghost use Rattle.amr_toc.specs.Lists.{listed, toc_at};
+ghost use Rattle.amr_toc.specs.Told.{IsAccepted, IsRead, IsRefused};
+ghost use Rattle.amr_toc.specs.Viewed.{format_of, octets_of, viewed};
+
+use amr_bits::BitSlice;
+use amr_frame::Profile;
+use amr_toc::{bits_before, entries_within, read_toc, PayloadRefusal, PayloadView, Toc};
+
+/// Reads a bandwidth-efficient payload in place. Refuses octets by the first of P1, P4 to P7, P9 and P10
+/// that holds of them; the others are of interleaved payloads.
+pub fn read_be<'a>(profile: &Profile, octets: &'a [u8]) -> Result<PayloadView<'a>, PayloadRefusal>
+    requires valid { IsValid profile.now }
+    requires packed { profile.now.octet_aligned ≡ false }
+
+    ensures value { IfOk result (λ view. IsRead profile.now octets.now (viewed view)) }
+    ensures format { IfOk result (λ view. format_of view ≡ profile.now) }
+    ensures octets { IfOk result (λ view. octets_of view ≡ octets.now) }
+
+    ensures refused { IfErr result (λ why. IsRefused profile.now octets.now why) }
+{
+    let toc = match accept(profile, octets) {
+        Ok(toc) => toc,
+        Err(why) => return Err(why),
+    };
+    Ok(PayloadView::over(profile, octets, toc))
+}
+
+/// Reads the table of a payload that isn't refused.
+fn accept(profile: &Profile, octets: &[u8]) -> Result<Toc, PayloadRefusal>
+    requires valid { IsValid profile.now }
+    requires packed { profile.now.octet_aligned ≡ false }
+
+    ensures accepted { IfOk result (λ toc. IsAccepted profile.now octets.now) }
+    ensures table { IfOk result (λ toc. listed toc ≡ toc_at profile.now octets.now) }
+    ensures refused { IfErr result (λ why. IsRefused profile.now octets.now why) }
+{
+    if octets.is_empty() {
+        return Err(PayloadRefusal::Empty);
+    }
+    let bits = behind_header(octets);
+    entries_within(profile);
+    let toc = match read_toc(profile, bits, entry_width()) {
+        Ok(toc) => toc,
+        Err(why) => return Err(why),
+    };
+    if let Some(why) = misfit_of(profile, octets.len(), &toc) {
+        return Err(why);
+    }
+    Ok(toc)
+}
+
+/// The bits of an entry of the table.
+fn entry_width() -> u32
+    ensures { result ≡ 6 }
+{
+    6
+}
+
+/// Why so many octets don't fit the table, where they are too few or too many.
+fn misfit_of(profile: &Profile, have: usize, toc: &Toc) -> Option<PayloadRefusal>
+    ensures { result ≡ misfit (need_by profile.now.codec (listed toc.now)) have }
+{
+    let need = need_of(profile, toc);
+    if have < need {
+        return Some(PayloadRefusal::BodyShort { need, have });
+    }
+    if need < have {
+        return Some(PayloadRefusal::BodyLong { need, have });
+    }
+    None
+}
+
+/// The bits behind the codec mode request: all, or at least those of the greatest table. A slice may have
+/// more bits than a usize counts.
+fn behind_header<'a>(octets: &'a [u8]) -> BitSlice<'a>
+    requires { 0 < length octets.now }
+    ensures bits { run result ≡ bits_at octets.now 4 result.len }
+    ensures fits { 4 + result.len ≤ 8 * length octets.now }
+    ensures enough { (4 + result.len ≡ 8 * length octets.now) ⊎ (3080 ≤ result.len) }
+{
+    BitSlice {
+        octets,
+        start: 4,
+        len: 8 * octets.len().min(4096) - 4,
+    }
+}
+
+/// How many octets a payload with this table has.
+fn need_of(profile: &Profile, toc: &Toc) -> usize
+    ensures { result ≡ need_by profile.now.codec (listed toc.now) }
+{
+    let entries = toc.len();
+    (4 + 6 * entries + bits_before(profile, toc, entries)).div_ceil(8)
+}

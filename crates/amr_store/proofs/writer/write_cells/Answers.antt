@@ -1,0 +1,49 @@
+use Rattle.std.proofs.Common.{◌≡◌, ◌+◌, ◌<◌, [], ◌∷◌, ◌++◌, take, drop, length, sym, refl, ap, ◌∙◌, subst, arith}
+use Rattle.std.specs.Io.KnownBytes.{Appends}
+use Rattle.std.proofs.KnownBytes.{Appends-nil, Appends-trans}
+use Rattle.std.proofs.lemmas.Grind.{take_at_read}
+use Rattle.std.proofs.lemmas.List.{take-append-drop}
+use Rattle.amr_frame.specs.Blocks.{frames_of}
+use Rattle.amr_store.specs.Written.{AppendsFront}
+use Rattle.amr_store.proofs.Blocks.{cells_both, cells_more}
+use Rattle.amr_store.proofs.Fronts.{front_of_more, on_err, part_is_front, then_front}
+use Rattle.amr_store.proofs.writer.write_cells.Goals as goal
+use Rattle.spec_store.specs.StorageFile.{block_text}
+
+pub loop-cell-init : goal.loop-cell-init
+loop-cell-init g c = record { put = Appends-nil _; faults = refl; beside = refl; same = g.met.O.Sink.reflexive c.args.sink.now }
+
+pub loop-cell-preserved : goal.loop-cell-preserved
+loop-cell-preserved g c =
+    let before = c.loop-cell.invariant in
+    let clauses = c.in_ok-write_whole.ensures in
+    let i = c.loop-cell.cell-index in
+    let cells = c.args.cells.now in
+    let x = c.cell-item.result in
+    let within : i < length cells = omega arith in
+    let more : take (i + 1) cells ≡ take i cells ++ x ∷ [] = (take_at_read cells i x within).1 ∙ ap (λ y. take i cells ++ y ∷ []) (sym c.cell-item.is) in
+    let text : block_text (frames_of (take i cells)) ++ take c.write_frame-count.result c.write_frame-count.new.out ≡ block_text (frames_of (take (i + 1) cells)) =
+    ap (λ t. block_text (frames_of (take i cells)) ++ t) c.write_frame-count.ensures.octets ∙ sym (cells_more (take i cells) x) ∙ ap (λ l. block_text (frames_of l)) (sym more) in
+    record {
+      put = subst (Appends (g.O.Sink.got c.args.sink.now) (g.O.Sink.got c.write_whole.new.sink)) text (Appends-trans _ _ _ _ _ before.put clauses.whole);
+      faults = clauses.cause ∙ before.faults;
+      beside = clauses.beside ∙ before.beside;
+      same = g.met.O.Sink.transitive _ _ _ before.same clauses.same;
+    }
+
+pub returns-in_err-write_whole-clause-part : goal.returns-in_err-write_whole-clause-part
+returns-in_err-write_whole-clause-part g c =
+    let before = c.loop-cell.invariant in
+    let clauses = c.in_err-write_whole.ensures in
+    let i = c.loop-cell.cell-index in
+    let cells = c.args.cells.now in
+    let x = c.cell-item.result in
+    let within : i < length cells = omega arith in
+    let more : take (i + 1) cells ≡ take i cells ++ x ∷ [] = (take_at_read cells i x within).1 ∙ ap (λ y. take i cells ++ y ∷ []) (sym c.cell-item.is) in
+    let text : block_text (frames_of (take i cells)) ++ take c.write_frame-count.result c.write_frame-count.new.out ≡ block_text (frames_of (take (i + 1) cells)) =
+    ap (λ t. block_text (frames_of (take i cells)) ++ t) c.write_frame-count.ensures.octets ∙ sym (cells_more (take i cells) x) ∙ ap (λ l. block_text (frames_of l)) (sym more) in
+    let whole : (block_text (frames_of (take i cells)) ++ take c.write_frame-count.result c.write_frame-count.new.out) ++ block_text (frames_of (drop (i + 1) cells)) ≡ block_text (frames_of cells) =
+    ap (λ t. t ++ block_text (frames_of (drop (i + 1) cells))) text ∙ sym (cells_both (take (i + 1) cells) (drop (i + 1) cells)) ∙ ap (λ l. block_text (frames_of l)) (take-append-drop (i + 1) cells) in
+    on_err c.from_residual.result
+    (subst (AppendsFront (g.O.Sink.got c.args.sink.now) (g.O.Sink.got c.write_whole.new.sink)) whole
+    (front_of_more _ _ _ (block_text (frames_of (drop (i + 1) cells))) (then_front _ (g.O.Sink.got c.loop-cell.sink) _ _ _ before.put (part_is_front _ _ _ clauses.part))))

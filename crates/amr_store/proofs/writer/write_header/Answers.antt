@@ -1,0 +1,30 @@
+use Rattle.std.proofs.Common.{◌∷◌, ◌++◌, [], sym, subst, ap, ◌∙◌}
+use Rattle.std.proofs.lemmas.Result.{on_err_weaker}
+use Rattle.amr_store.specs.Written.{AppendsFront}
+use Rattle.amr_store.proofs.Fronts.{front_of_more, on_err, part_is_front, then_front}
+use Rattle.amr_store.proofs.Heads.{header_of_many, header_of_one}
+use Rattle.amr_store.proofs.writer.write_header.Goals as goal
+
+pub returns-then-channels-eq1-clause-part : goal.returns-then-channels-eq1-clause-part
+returns-then-channels-eq1-clause-part g c =
+    let is = c.magic.ensures ∙ sym (header_of_one c.args.codec c.args.channels c.if-channels-eq1.true) in
+    on_err_weaker c.write_whole.result
+    (λ part. subst (AppendsFront (g.O.Sink.got c.args.sink.now) (g.O.Sink.got c.write_whole.new.sink)) is (part_is_front _ _ _ part))
+    c.write_whole.ensures.part
+
+pub returns-in_err-write_whole-clause-part : goal.returns-in_err-write_whole-clause-part
+returns-in_err-write_whole-clause-part g c =
+    let tail = 0 ∷ 0 ∷ 0 ∷ c.args.channels ∷ [] in
+    let is = ap (λ magic. magic ++ tail) c.multichannel_magic.ensures ∙ sym (header_of_many c.args.codec c.args.channels c.if-channels-eq1.false) in
+    on_err c.from_residual.result
+    (subst (AppendsFront (g.O.Sink.got c.args.sink.now) (g.O.Sink.got c.write_whole-2.new.sink)) is
+    (front_of_more _ _ c.multichannel_magic.result.now tail (part_is_front _ _ _ c.in_err-write_whole.ensures.part)))
+
+pub returns-clause-part : goal.returns-clause-part
+returns-clause-part g c =
+    let tail = 0 ∷ 0 ∷ 0 ∷ c.args.channels ∷ [] in
+    let is = ap (λ magic. magic ++ tail) c.multichannel_magic.ensures ∙ sym (header_of_many c.args.codec c.args.channels c.if-channels-eq1.false) in
+    on_err_weaker c.write_whole-3.result
+    (λ part. subst (AppendsFront (g.O.Sink.got c.args.sink.now) (g.O.Sink.got c.write_whole-3.new.sink)) is
+    (then_front _ (g.O.Sink.got c.write_whole-2.new.sink) _ c.multichannel_magic.result.now tail c.in_ok-write_whole.ensures.whole (part_is_front _ _ _ part)))
+    c.write_whole-3.ensures.part

@@ -1,0 +1,30 @@
+ghost use Rattle.std.specs.Prelude.{◌≡◌, ◌≤◌, ◌∷◌, ◌++◌, [], false, take};
+ghost use Rattle.amr_bits.specs.Bits.{filled, nat};
+ghost use Rattle.amr_frame.specs.Cells.{frame_of};
+ghost use Rattle.spec_store.specs.StorageFile.{frame_text};
+
+use amr_frame::Cell;
+
+/// The octet before a frame's bits: P, the type in 4 bits, Q, and two P bits (RFC 4867, 5.3).
+fn frame_head(ft: u8, q: bool) -> u8
+    requires { ft ≤ 15 }
+    ensures { result ∷ [] ≡ filled (false ∷ nat 4 ft ++ q ∷ []) }
+{
+    match q {
+        true => ft * 8 + 4,
+        false => ft * 8,
+    }
+}
+
+/// Writes a frame as it stands in a file to the front of `out`, and answers how many octets it takes, from 1 to 61.
+pub fn write_frame(cell: &Cell, out: &mut [u8; 61]) -> usize
+    requires { cell.now.ft ≤ 15 }
+
+    ensures count { result ≤ 61 }
+    ensures octets { take result out.new ≡ frame_text (frame_of cell.now) }
+{
+    out[0] = frame_head(cell.ft, cell.q);
+    let octets = cell.bits.len().div_ceil(8);
+    cell.bits.as_bits().copy_to(&mut out[1..1 + octets]);
+    1 + octets
+}

@@ -1,0 +1,56 @@
+-- Where a table ends.
+use Rattle.std.proofs.Common.{◌≡◌, ℕ, ◌+◌, ◌*◌, ◌%◌, ◌<◌, ◌≤◌, Bool, true, false, not, ◌||◌, eqb, ltb, List, [], ◌∷◌, ◌++◌, length, map, refl, ap, ◌∙◌, sym, arith, Option, Some, None}
+use Rattle.std.specs.Prelude.{is_some}
+use Rattle.std.specs.Option.{unwrap_or}
+use Rattle.std.specs.List.{range_with_len}
+use Rattle.std.proofs.lemmas.Bool.{eq-eqb, le-ltb, lt-ltb}
+use Rattle.amr_frame.specs.declared.profile.Profile.{Profile}
+use Rattle.amr_frame.specs.First.{when, first}
+use Rattle.amr_frame.specs.Tables.{is_reserved}
+use Rattle.spec_payload.specs.declared.refusal.PayloadRefusal.{PayloadRefusal}
+use Rattle.spec_payload.specs.declared.refusal.PayloadRefusal.TheVariants as why
+use Rattle.payload_laws.proofs.Ranges.{find_from}
+use Rattle.amr_toc.specs.Table.{more_of, type_of, fault_of, ends_at, last_of}
+
+-- the last entry is the first that ends the table
+pub last_is : (p : Profile) (width : ℕ) (bits : List Bool) (k : ℕ) → k < p.max_blocks * p.channels + 1 → ((j : ℕ) → j < k → ends_at p width bits j ≡ false) → ends_at p width bits k ≡ true → last_of p width bits ≡ k
+last_is p width bits k h none hit = ap (λ (o : Option ℕ). unwrap_or o 0) (find_from (ends_at p width bits) 0 (p.max_blocks * p.channels + 1) k (omega arith) (omega arith) (λ j l x. none j x) hit)
+
+-- a fault ends it
+pub fault_ends : (o : Option PayloadRefusal) (b : Bool) (r : PayloadRefusal) → o ≡ Some r → (is_some o || not b) ≡ true
+fault_ends o b r e = rw e refl
+
+-- F = 0 ends it
+pub zero_ends : (o : Option PayloadRefusal) (b : Bool) → b ≡ false → (is_some o || not b) ≡ true
+zero_ends None b e = rw e refl
+zero_ends (Some r) b e = refl
+
+-- no fault and F = 1 don't
+pub goes_on : (o : Option PayloadRefusal) (b : Bool) → o ≡ None → b ≡ true → (is_some o || not b) ≡ false
+goes_on o b e f = rw (e, f) refl
+
+-- the third of three rules holds
+third : (a b d : Bool) (x y z : PayloadRefusal) → d ≡ true → is_some (first (when a x ∷ when b y ∷ when d z ∷ [])) ≡ true
+third true b d x y z e = refl
+third false true d x y z e = refl
+third false false d x y z e = rw e refl
+
+-- where the first of two holds
+or_true : (a b : Bool) → a ≡ true → (a || b) ≡ true
+or_true true b e = refl
+or_true false b e = absurd cc
+
+-- the table ends at the latest one entry past the most
+pub ends_at_most : (p : Profile) (width : ℕ) (bits : List Bool) → ends_at p width bits (p.max_blocks * p.channels) ≡ true
+ends_at_most p width bits =
+    let most = p.max_blocks * p.channels in
+    or_true (is_some (fault_of p width bits most)) (not (more_of width bits most))
+    (third (ltb (length bits) ((most + 1) * width)) (is_reserved p.codec (type_of width bits most)) (eqb most most) (why.TocUnended most) (why.ReservedType most (type_of width bits most)) why.TooManyBlocks (eq-eqb most most refl))
+
+-- entries that aren't whole blocks, where no entry is wrong
+pub rest_refused : (o : Option PayloadRefusal) (n c : ℕ) → o ≡ None → 0 < n % c → first (o ∷ when (ltb 0 (n % c)) (why.ChannelRest n) ∷ []) ≡ Some (why.ChannelRest n)
+rest_refused o n c e h = let t : ltb 0 (n % c) ≡ true = lt-ltb 0 (n % c) h in rw (e, t) refl
+
+-- and those that are
+pub none_refused : (o : Option PayloadRefusal) (n c : ℕ) → o ≡ None → n % c ≡ 0 → first (o ∷ when (ltb 0 (n % c)) (why.ChannelRest n) ∷ []) ≡ None
+none_refused o n c e h = let t : ltb 0 (n % c) ≡ false = le-ltb 0 (n % c) (omega arith) in rw (e, t) refl

@@ -1,0 +1,4 @@
+pub mod Ends
+pub mod InPayload
+pub mod Shown
+pub mod Sizes

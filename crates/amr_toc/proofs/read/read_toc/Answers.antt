@@ -1,0 +1,29 @@
+use Rattle.std.proofs.Common.{◌≡◌, ◌+◌, ◌%◌, Some, length, ap, sym, subst, ◌∙◌, arith}
+use Rattle.std.specs.Prelude.{◌<◌, None}
+use Rattle.std.proofs.lemmas.List.FromFn.{length-map-range_with_len}
+use Rattle.amr_frame.specs.First.{when, first}
+use Rattle.amr_bits.specs.Runs.{run}
+use Rattle.amr_toc.specs.Lists.{listed}
+use Rattle.amr_toc.specs.Table.{entry_of, fault_of, last_of, table_refusal}
+use Rattle.amr_toc.proofs.Ends.{rest_refused, none_refused}
+use Rattle.spec_payload.specs.declared.refusal.PayloadRefusal.TheVariants as why
+use Rattle.amr_toc.proofs.read.read_toc.Goals as goal
+
+pub returns-then-entries-profile-ne0-clause-refused : goal.returns-then-entries-profile-ne0-clause-refused
+returns-then-entries-profile-ne0-clause-refused c =
+    let p = c.args.profile.now in
+    let w = c.args.width in
+    let bits = run c.args.bits in
+    let n = last_of p w bits + 1 in
+    let e : c.len-entries.result ≡ n = c.len-entries.ensures.entries ∙ ap length c.in_ok-toc.ensures.table ∙ length-map-range_with_len (entry_of w bits) 0 n in
+    let rest : 0 < n % p.channels = subst (λ m. 0 < m % p.channels) e (let h = c.if-entries-profile-ne0.true in omega (arith, h)) in
+    rest_refused (fault_of p w bits (last_of p w bits)) n p.channels c.in_ok-toc.ensures.accepted rest ∙ ap (λ m. Some (why.ChannelRest m)) (sym e)
+
+pub returns-clause-accepted : goal.returns-clause-accepted
+returns-clause-accepted c =
+    let p = c.args.profile.now in
+    let w = c.args.width in
+    let bits = run c.args.bits in
+    let n = last_of p w bits + 1 in
+    let e : c.len-entries.result ≡ n = c.len-entries.ensures.entries ∙ ap length c.in_ok-toc.ensures.table ∙ length-map-range_with_len (entry_of w bits) 0 n in
+    none_refused (fault_of p w bits (last_of p w bits)) n p.channels c.in_ok-toc.ensures.accepted (subst (λ m. m % p.channels ≡ 0) e (let h = c.if-entries-profile-ne0.false in omega (arith, h)))

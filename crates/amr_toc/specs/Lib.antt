@@ -1,0 +1,5 @@
+pub mod Entries
+pub mod Lists
+pub mod Table
+pub mod Told
+pub mod Viewed

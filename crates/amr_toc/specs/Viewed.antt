@@ -1,0 +1,37 @@
+-- A payload that is read in place, and what it shows (RFC 4867, 4.3 and 4.4).
+use Rattle.std.specs.Prelude.{ℕ, Bool, not, ◌&&◌, nat_eq, List, length, map, filter, take, slice_index, slice_index_or}
+use Rattle.std.specs.List.{range_with_len}
+use Rattle.amr_frame.specs.declared.profile.Profile.{Profile}
+use Rattle.amr_frame.specs.Frames.{Frame, no_data}
+use Rattle.amr_toc.specs.declared.entry.Entry.{Entry}
+use Rattle.amr_toc.specs.declared.view.PayloadView.{PayloadView}
+use Rattle.amr_toc.specs.Lists.{toc_at}
+use Rattle.spec_payload.specs.Grammar.{check_of}
+use Rattle.spec_payload.specs.Reading.{value_at, checks_at}
+use Rattle.spec_payload.specs.Seen.{seen}
+use Rattle.spec_payload.specs.Values.{Value, has_bits}
+
+-- the format and the octets of a view
+abbrev pub format_of : PayloadView → Profile
+format_of view = view.profile
+
+abbrev pub octets_of : PayloadView → List ℕ
+octets_of view = view.octets.now
+
+-- what its payload says
+abbrev pub said : PayloadView → Value
+said view = value_at view.profile view.octets.now
+
+-- and how it is seen: a frame whose CRC differs has Q = 0
+abbrev pub viewed : PayloadView → Value
+viewed view = seen view.profile (said view) (checks_at view.profile view.octets.now)
+
+-- frame k of a value
+abbrev pub frame_in : Value → ℕ → Frame
+frame_in v k = slice_index_or v.frames k no_data
+
+-- whether frame k has a CRC, and it differs; each frame that has bits takes the next CRC
+abbrev pub is_damaged : PayloadView → ℕ → Bool
+is_damaged view k =
+    let check = slice_index (checks_at view.profile view.octets.now) (length (filter has_bits (take k (said view).frames))) in
+    view.profile.crc && (has_bits (frame_in (said view) k) && not (nat_eq check (check_of view.profile (frame_in (said view) k))))

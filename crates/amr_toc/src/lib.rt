@@ -1,0 +1,11 @@
+//! Tables of contents of payloads, and payloads that are read in place (RFC 4867, 4.3 and 4.4).
+#![tactic(auto)]
+
+mod entry;
+mod read;
+mod view;
+
+pub use entry::{Entry, Toc};
+pub use read::{entries_within, read_toc};
+pub use spec_payload::PayloadRefusal;
+pub use view::{bits_before, PayloadView};

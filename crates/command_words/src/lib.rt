@@ -1,0 +1,11 @@
+//! The words of the command line: a command, and behind it pairs of an option and its value, in any order.
+#![tactic(auto)]
+
+mod command;
+mod number;
+mod words;
+
+pub use command::{Command, RecordWords, read_command};
+
+#[cfg(test)]
+mod tests;

@@ -1,0 +1,4 @@
+pub mod GrowsLemmas
+pub mod TurnLemmas
+pub mod ProgressLemmas
+pub mod ToldLemmas

@@ -1,0 +1,117 @@
+// Octets that wait to be written.
+ghost use Rattle.std.specs.Prelude.{◌≡◌, ℕ, ◌+◌, ◌-◌, ◌≤◌, ◌<◌, ◌++◌, [], List, length, drop, IfOk, OnOk, vec_len, vec_capacity};
+ghost use Rattle.std.specs.Io.KnownBytes.{Keeps, append_known};
+ghost use Rattle.amr_io.specs.Fault.{HasCause};
+ghost use Rattle.log_engine.specs.Tray.{Tray, Grows};
+
+use amr_io::{Failed, Sink};
+use std::alloc::{AllocError, Global};
+use std::marker::Model;
+
+/// Octets that wait to be written, in room that is reserved at the start.
+#[derive(Drop)]
+pub struct Gather {
+    octets: Vec<u8>,
+    sent: usize,
+    room: usize,
+}
+
+impl Model for Gather {
+    ghost use Rattle.std.specs.Prelude.{◌≡◌, ◌≤◌, drop, vec_len, vec_capacity};
+    ghost use Rattle.log_engine.specs.Tray.{Tray};
+
+    ghost Value = { Tray };
+
+    ghost view = { λ s. record {
+      waiting = drop s.sent s.octets.items;
+      used = vec_len s.octets;
+      room = s.room;
+    } };
+
+    ghost invariant = { λ s. (s.sent ≤ vec_len s.octets) × (vec_len s.octets ≤ s.room) × (s.room ≤ vec_capacity s.octets) };
+}
+
+impl Gather {
+    /// Room for `room` octets, of which none waits.
+    ///
+    /// Want of memory is the only error.
+    pub fn create(alloc: Global, room: usize) -> Result<Gather, AllocError>
+        ensures fresh { IfOk result (λ s. s ≡ record { waiting = []; used = 0; room = room }) }
+    {
+        let octets = Vec::with_capacity(alloc, room)?;
+        Ok(Gather {
+            octets,
+            sent: 0,
+            room,
+        })
+    }
+
+    /// How many octets have room.
+    pub fn free(&self) -> usize
+        ensures { result + self.now.used ≡ self.now.room }
+    {
+        self.room - self.octets.len()
+    }
+
+    /// How many octets there is room for in all.
+    pub fn room(&self) -> usize
+        ensures { result ≡ self.now.room }
+    {
+        self.room
+    }
+
+    /// The octets that wait.
+    pub fn waiting(&self) -> &[u8]
+        ensures { result.now ≡ self.now.waiting }
+    {
+        &self.octets[self.sent..]
+    }
+
+    /// Takes octets to those that wait.
+    pub fn push(&mut self, octets: &[u8])
+        requires { self.old.used + length octets.now ≤ self.old.room }
+        ensures { self.new ≡ record self.old { waiting = self.old.waiting ++ octets.now; used = self.old.used + length octets.now } }
+    {
+        // There is room for it.
+        let Ok(()) = self.octets.extend_from_slice(octets) else {
+            unreachable!()
+        };
+    }
+
+    /// Drops the first octets that wait.
+    pub fn pass(&mut self, count: usize)
+        requires { count ≤ length self.old.waiting }
+        ensures { self.new ≡ record self.old { waiting = drop count self.old.waiting } }
+    {
+        self.sent += count;
+    }
+
+    /// Uses the room anew.
+    pub fn clear(&mut self)
+        requires { self.old.waiting ≡ [] }
+        ensures { self.new ≡ record self.old { waiting = []; used = 0 } }
+    {
+        self.octets.clear();
+        self.sent = 0;
+    }
+
+    /// Writes the octets that wait to `output`, and keeps what it got in all, that which waits included.
+    ///
+    /// `Failed` comes only where the output's faults rose.
+    pub fn flush<O: Sink>(&mut self, output: &mut O) -> Result<(), Failed>
+        ensures kept { Keeps (append_known (O.got output.old) self.old.waiting) (append_known (O.got output.new) self.new.waiting) }
+        ensures empty { OnOk result ((self.new.waiting ≡ []) × (self.new.used ≡ 0)) }
+        ensures room { self.new.room ≡ self.old.room }
+        ensures cause { HasCause (O.faults output.old) (O.faults output.new) result }
+        ensures beside { O.beside output.new ≡ O.beside output.old }
+        ensures grows { Grows (O.got output.old) (O.got output.new) }
+        ensures same { O.same output.old output.new }
+    {
+        'sending: while !self.waiting().is_empty() {
+            let count = output.write(self.waiting())?;
+            self.pass(count);
+        }
+        self.clear();
+        Ok(())
+    }
+}

@@ -1,0 +1,28 @@
+//! Packets of a log, read one after the other and lent in place (RFC 4571, 2).
+//! RTP packets, read in place and written (RFC 3550, 5.1).
+#![tactic(auto)]
+
+mod fields;
+mod head;
+mod header;
+mod law;
+mod log_reader;
+mod next;
+mod put;
+mod read;
+mod view;
+mod write;
+
+pub use fields::RtpFields;
+pub use law::octets_tell_one_answer;
+pub use log_reader::LogReader;
+pub use next::Next;
+pub use read::read_rtp;
+pub use spec_packet::RtpRefusal;
+pub use view::RtpView;
+pub use write::{size_rtp, write_rtp};
+
+#[cfg(test)]
+mod rtp_tests;
+#[cfg(test)]
+mod tests;
