@@ -3,7 +3,6 @@ pub mod CellLists
 pub mod Cells
 pub mod Counts
 pub mod Holding
-pub mod Judging
 pub mod Late
 pub mod Out
 pub mod Payloads
