@@ -1,6 +1,6 @@
 -- What accepting a packet changes in what is kept of a session.
-use Rattle.std.proofs.Common.{ℕ, max, ◌+◌, ◌-◌, ◌*◌, ◌/◌, ◌%◌, ◌^◌, ◌<◌, ◌≤◌, ◌≡◌, List, [], ◌∷◌, ◌++◌, length, refl, sym, ap, ◌∙◌, subst, arith, true, Option, Some, None, ℤ, pos, ◌+ℤ◌, ◌-ℤ◌, append_assoc, append-nil, length-append, inl, inr, ◌⊎◌}
-use Rattle.std.specs.Prelude.{◌≤ℤ◌, ◌<ℤ◌, int_lt, map, option_map, sum}
+use Rattle.std.proofs.Common.{ℕ, max, ◌+◌, ◌-◌, ◌*◌, ◌%◌, ◌^◌, ◌<◌, ◌≤◌, ◌≡◌, List, [], ◌∷◌, ◌++◌, length, refl, sym, ap, ◌∙◌, subst, arith, true, Option, Some, None, ℤ, pos, ◌-ℤ◌, append_assoc, append-nil, length-append, inl, inr, ◌⊎◌}
+use Rattle.std.specs.Prelude.{◌≤ℤ◌, ◌<ℤ◌, int_lt, map, sum}
 use Rattle.std.specs.Int.{int_max}
 use Rattle.std.specs.List.{AllByRecursion}
 use Rattle.std.proofs.lemmas.Bool.{cases_lt}
@@ -9,7 +9,7 @@ use Rattle.std.proofs.lemmas.Int.{ints, clamps}
 use Rattle.amr_frame.specs.Frames.{Frame}
 use Rattle.amr_playout.specs.Copied.{IsEdge}
 use Rattle.amr_playout.specs.Shown.{Shows}
-use Rattle.amr_playout.specs.Standing.{Holds, HoldsBegun, IsInside, Reaches, ShowsBefore, edge_with, horizon_with, out_before, placed, sent_at, sent_of}
+use Rattle.amr_playout.specs.Standing.{Holds, IsInside, Reaches, ShowsBefore, edge_with, horizon_with, out_before, placed, sent_at, sent_of}
 use Rattle.amr_playout.specs.Window.{at, base_of, out_to, window_of}
 use Rattle.amr_playout.specs.declared.session.Begun.{Begun}
 use Rattle.amr_playout.specs.declared.session.Head.{Head}

@@ -1,5 +1,5 @@
 -- The cells of a window, and what one copy more changes in them.
-use Rattle.std.proofs.Common.{ℕ, ◌+◌, ◌-◌, ◌*◌, ◌/◌, ◌%◌, ◌<◌, ◌≤◌, ◌≡◌, ◌≢◌, Bool, true, false, cond, ◌&&◌, nat_eq, List, [], ◌∷◌, ◌++◌, length, map, get_or, set, refl, sym, ap, ◌∙◌, arith, inl, inr, Option, Some, None, ℤ, pos, ◌+ℤ◌, ◌-ℤ◌, length-set, get_or-set_same, get_or-set_other}
+use Rattle.std.proofs.Common.{ℕ, ◌+◌, ◌*◌, ◌/◌, ◌%◌, ◌<◌, ◌≤◌, ◌≡◌, true, false, cond, ◌&&◌, nat_eq, List, [], ◌∷◌, ◌++◌, length, map, get_or, set, refl, sym, ap, ◌∙◌, arith, inl, inr, Option, Some, None, ℤ, pos, ◌+ℤ◌, length-set, get_or-set_same, get_or-set_other}
 use Rattle.std.specs.Prelude.{◌≤ℤ◌, ◌<ℤ◌, filter, fold}
 use Rattle.std.specs.List.{range_with_len, AllByRecursion}
 use Rattle.std.proofs.lemmas.Bool.{cases_lt, cases_eq}
@@ -13,7 +13,7 @@ use Rattle.std.proofs.lemmas.Nat.{le-div, mod_below, mul-add-lt, div-mul-add, mo
 use Rattle.std.proofs.Math.Nat.{mul_comm}
 use Rattle.amr_frame.specs.declared.codec.Codec.{Codec}
 use Rattle.amr_frame.specs.Frames.{Frame}
-use Rattle.amr_playout.specs.Window.{base_of, cell_at, item, row, rows, window_of}
+use Rattle.amr_playout.specs.Window.{base_of, cell_at, item, row, window_of}
 use Rattle.amr_playout.proofs.Ranges.{map_map, shifted_maps}
 use Rattle.amr_playout.proofs.Spans.{is_map}
 use Rattle.spec_session.specs.Copies.{Copy}
@@ -188,6 +188,7 @@ slid_window rules h cs count some all =
     over count n k some =
         let split : count * n + k ≡ (count + k / n) * n + k % n = grind (arith, div-add-mod') in
         ap (λ j. j / n) split ∙ div-mul-add (count + k / n) n (k % n) (mod_below k n some)
+
     under : (count n k : ℕ) → 0 < n → (count * n + k) % n ≡ k % n
     under count n k some =
         let split : count * n + k ≡ (count + k / n) * n + k % n = grind (arith, div-add-mod') in

@@ -1,7 +1,6 @@
 -- How many copies came for a place and a channel that had one.
-use Rattle.std.proofs.Common.{ℕ, zero, suc, ◌+◌, ◌-◌, ◌≤◌, ◌≡◌, Bool, true, false, cond, ◌&&◌, nat_eq, List, [], ◌∷◌, ◌++◌, length, refl, sym, ap, ◌∙◌, arith, Option, Some, None, ℤ, length-append}
+use Rattle.std.proofs.Common.{ℕ, suc, ◌+◌, ◌-◌, ◌≤◌, ◌≡◌, Bool, true, false, cond, ◌&&◌, nat_eq, List, [], ◌∷◌, ◌++◌, length, refl, sym, ap, ◌∙◌, arith, Option, Some, None, ℤ, length-append}
 use Rattle.std.specs.Prelude.{filter, find, fold, is_some, map}
-use Rattle.std.proofs.lemmas.Bool.Decides.{eqb_tells, nat_tests}
 use Rattle.std.proofs.lemmas.Bool.{cases_eq}
 use Rattle.std.proofs.lemmas.Int.{ints, by_lt_z}
 use Rattle.std.proofs.Common.{inl, inr, ◌⊎◌}
@@ -75,7 +74,7 @@ different_more (x ∷ cs) d =
           ∙ rest
           ∙ ap (λ b. different cs + cond b 0 1) alike
           ∙ sym (ap (λ b. different (x ∷ cs) + cond b 0 1) (found_first x cs d.place d.channel back) ∙ flip (has cs x.place x.channel) (different cs))
-        )
+          )
       | inr other ↦
           ap (λ b. cond b (different (cs ++ d ∷ [])) (suc (different (cs ++ d ∷ [])))) (has_else cs d x.place x.channel other.0)
           ∙ counted (has cs d.place d.channel) (has cs x.place x.channel) (different (cs ++ d ∷ [])) (different cs) (different_more cs d)

@@ -1,6 +1,6 @@
 -- What a window shows of the copies so far, step by step.
-use Rattle.std.proofs.Common.{ℕ, zero, suc, ◌+◌, ◌-◌, ◌*◌, ◌/◌, ◌%◌, ◌<◌, ◌≤◌, ◌≡◌, Bool, true, false, cond, List, [], ◌∷◌, ◌++◌, length, map, replicate, refl, sym, ap, ◌∙◌, subst, arith, Option, Some, None, ℤ, pos, ◌+ℤ◌, ◌-ℤ◌, append_assoc, append-nil, inl, inr, ◌⊎◌}
-use Rattle.std.specs.Prelude.{◌≤ℤ◌, ◌<ℤ◌, filter, flat_map, fold, int_lt, is_some}
+use Rattle.std.proofs.Common.{ℕ, zero, suc, ◌+◌, ◌-◌, ◌*◌, ◌/◌, ◌%◌, ◌<◌, ◌≤◌, ◌≡◌, Bool, true, false, cond, List, [], ◌∷◌, ◌++◌, length, map, replicate, refl, sym, ap, ◌∙◌, subst, arith, Option, None, ℤ, pos, ◌+ℤ◌, ◌-ℤ◌, append-nil, inl, inr, ◌⊎◌}
+use Rattle.std.specs.Prelude.{◌≤ℤ◌, ◌<ℤ◌, filter, int_lt}
 use Rattle.std.specs.Int.{int_max, int_min}
 use Rattle.std.specs.List.{range_with_len, AllByRecursion}
 use Rattle.std.proofs.lemmas.Int.{ints, clamps, by_lt_z}
@@ -14,9 +14,9 @@ use Rattle.amr_frame.specs.Frames.{Frame}
 use Rattle.amr_playout.specs.Copied.{IsEdge, copies_to}
 use Rattle.amr_playout.specs.Shown.{Shows}
 use Rattle.amr_playout.specs.Standing.{Reaches}
-use Rattle.amr_playout.specs.Window.{base_of, cell_at, item, out_to, slid, window_of}
+use Rattle.amr_playout.specs.Window.{base_of, cell_at, item, slid, window_of}
 use Rattle.amr_playout.proofs.Cells.{Within, length-window, slid_window}
-use Rattle.amr_playout.proofs.Out.{late_out, least_same, next_more}
+use Rattle.amr_playout.proofs.Out.{least_same, next_more}
 use Rattle.amr_playout.proofs.Spans.{is_map}
 use Rattle.amr_playout.proofs.Taking.{block_of, place_up, spot_high}
 use Rattle.session_laws.proofs.Prefix.{Past}
@@ -149,9 +149,9 @@ new_last rules a edge w is soon = go (length a.packet.value.frames) refl
           copies_to rules a m,
           copy_at rules a m,
           ap (copies_to rules a) one
-          ∙ ap (filter (λ (c : Copy). in_time rules a c.place)) (map-range_with_len_more (copy_at rules a) 0 m m (omega arith))
-          ∙ filter-append (λ (c : Copy). in_time rules a c.place) (map (copy_at rules a) (range_with_len 0 m)) (copy_at rules a m ∷ [])
-          ∙ ap (λ b. copies_to rules a m ++ cond b (copy_at rules a m ∷ []) []) t,
+              ∙ ap (filter (λ (c : Copy). in_time rules a c.place)) (map-range_with_len_more (copy_at rules a) 0 m m (omega arith))
+              ∙ filter-append (λ (c : Copy). in_time rules a c.place) (map (copy_at rules a) (range_with_len 0 m)) (copy_at rules a m ∷ [])
+              ∙ ap (λ b. copies_to rules a m ++ cond b (copy_at rules a m ∷ []) []) t,
           place,
         )
 

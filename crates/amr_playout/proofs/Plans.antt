@@ -1,5 +1,5 @@
 -- What a valid plan says.
-use Rattle.std.proofs.Common.{ℕ, ◌<◌, ◌≤◌, ◌≡◌, max, Bool, true, false, ◌||◌, nat_eq, nat_lt, List, [], ◌∷◌, refl, sym, ap, ◌∙◌, arith, Option, Some, None}
+use Rattle.std.proofs.Common.{ℕ, ◌<◌, ◌≤◌, ◌≡◌, Bool, true, false, ◌||◌, nat_eq, nat_lt, [], ◌∷◌, refl, arith, Option, Some, None}
 use Rattle.std.specs.Prelude.{◌&&◌, is_some, not, option_map}
 use Rattle.std.proofs.lemmas.Bool.Decides.{nat_tests}
 use Rattle.amr_frame.specs.First.{when, first}

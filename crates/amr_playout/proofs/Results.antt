@@ -1,5 +1,5 @@
 -- Answers, good or not.
-use Rattle.std.proofs.Common.{Result, Ok, Err, OnErr, OnOk}
+use Rattle.std.proofs.Common.{Result, Ok, Err, OnErr}
 use Rattle.amr_playout.specs.Refusals.{OnFault}
 use Rattle.amr_playout.specs.declared.answers.Offered.{Offered as Answer}
 use Rattle.amr_playout.specs.declared.answers.Offered.TheVariants as answer

@@ -1,11 +1,10 @@
 -- The window brought up to a later horizon, as the receiver counts places.
-use Rattle.std.proofs.Common.{ℕ, ◌+◌, ◌-◌, ◌*◌, ◌^◌, ◌<◌, ◌≤◌, ◌≡◌, max, List, ◌++◌, length, refl, sym, ap, ◌∙◌, subst, arith, Option, ℤ, pos, ◌+ℤ◌, ◌-ℤ◌, length-append}
-use Rattle.std.specs.Int.{int_max}
+use Rattle.std.proofs.Common.{ℕ, ◌+◌, ◌-◌, ◌*◌, ◌^◌, ◌<◌, ◌≤◌, ◌≡◌, max, List, ◌++◌, length, sym, ap, ◌∙◌, subst, arith, Option, pos, ◌+ℤ◌, ◌-ℤ◌, length-append}
 use Rattle.std.proofs.lemmas.Int.{ints, clamps}
 use Rattle.std.proofs.lemmas.List.FromFn.{length-map-range_with_len}
 use Rattle.amr_frame.specs.Frames.{Frame}
 use Rattle.amr_playout.specs.Shown.{Shows}
-use Rattle.amr_playout.specs.Window.{at, base_of, out_to, row, rows, slid, window_of}
+use Rattle.amr_playout.specs.Window.{at, base_of, out_to, row, rows, slid}
 use Rattle.amr_playout.proofs.Holding.{slid_shows}
 use Rattle.amr_playout.proofs.Out.{slid_out}
 use Rattle.spec_session.specs.Copies.{Copy}

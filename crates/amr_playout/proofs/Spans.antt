@@ -1,10 +1,10 @@
 -- What a ring of cells does to the list of what they hold.
-use Rattle.std.proofs.Common.{Option, Some, None, if◌then◌else◌, nat_lt, slice_get, unwrap_or, ℕ, zero, suc, ◌+◌, ◌-◌, ◌*◌, ◌<◌, ◌≤◌, ◌≡◌, ◌≢◌, List, [], ◌∷◌, ◌++◌, length, map, take, drop, replicate, get_or, set, refl, sym, ap, ◌∙◌, subst, arith, length-append, length-drop, length-set, get_or-set_same, get_or-set_other, append_assoc, inl, inr}
+use Rattle.std.proofs.Common.{Option, None, if◌then◌else◌, nat_lt, slice_get, unwrap_or, ℕ, suc, ◌+◌, ◌-◌, ◌*◌, ◌<◌, ◌≤◌, ◌≡◌, List, [], ◌∷◌, ◌++◌, length, map, take, drop, replicate, get_or, refl, sym, ap, ◌∙◌, arith, length-append, length-drop, append_assoc, inl, inr}
 use Rattle.std.specs.List.{range_with_len}
 use Rattle.std.proofs.lemmas.List.{get_or-drop, get_or_append_left, get_or-append_right, get_or-replicate, ext_get_or, get_or_past, drop_more, length-replicate, replicate_more}
 use Rattle.std.proofs.lemmas.List.FromFn.{length-map-range_with_len, get_or-map-range_with_len, take-map-range_with_len, map-range_with_len_more}
 use Rattle.std.proofs.lemmas.Grind.{common_steps}
-use Rattle.std.proofs.lemmas.Bool.{cases_lt, cases_eq}
+use Rattle.std.proofs.lemmas.Bool.{cases_lt}
 use Rattle.circular_buffer.specs.Buffer.{keep_last}
 use Rattle.amr_frame.specs.Frames.{Frame}
 use Rattle.amr_playout.proofs.Ranges.{joined_maps}
@@ -88,8 +88,8 @@ pub rows_rest : (c : ℕ) (xs : List (Option Frame)) (skip i n : ℕ) → skip �
 rows_rest c xs skip i n le lt = (
   rows c xs (i + 1) (n - (i + 1)),
   (let all : n - skip ≡ (i - skip) + (suc (n - (i + 1))) = omega arith in
-  let place : skip + (i - skip) ≡ i = omega arith in
-  ap (rows c xs skip) all ∙ joined skip (i - skip) (suc (n - (i + 1))) ∙ ap (λ k. rows c xs skip (i - skip) ++ rows c xs k (suc (n - (i + 1)))) place),
+      let place : skip + (i - skip) ≡ i = omega arith in
+      ap (rows c xs skip) all ∙ joined skip (i - skip) (suc (n - (i + 1))) ∙ ap (λ k. rows c xs skip (i - skip) ++ rows c xs k (suc (n - (i + 1)))) place),
 )
   where
     joined : (a m k : ℕ) → rows c xs a (m + k) ≡ rows c xs a m ++ rows c xs (a + m) k

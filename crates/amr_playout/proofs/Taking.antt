@@ -1,9 +1,9 @@
 -- What the frames of a packet change, one by one.
-use Rattle.std.proofs.Common.{ℕ, ◌+◌, ◌-◌, ◌*◌, ◌/◌, ◌%◌, ◌^◌, ◌<◌, ◌≤◌, ◌≡◌, Bool, true, false, cond, List, [], ◌∷◌, ◌++◌, length, map, refl, sym, ap, ◌∙◌, arith, Option, Some, None, ℤ, pos, ◌+ℤ◌, ◌-ℤ◌, append_assoc, append-nil, set, slice_index_or}
+use Rattle.std.proofs.Common.{ℕ, ◌+◌, ◌-◌, ◌*◌, ◌/◌, ◌%◌, ◌^◌, ◌<◌, ◌≤◌, ◌≡◌, Bool, true, false, cond, List, [], ◌∷◌, ◌++◌, map, sym, ap, ◌∙◌, arith, Option, Some, ℤ, pos, ◌+ℤ◌, ◌-ℤ◌, append_assoc, set, slice_index_or}
 use Rattle.std.specs.Prelude.{◌≤ℤ◌, ◌<ℤ◌, filter, int_lt, is_some}
 use Rattle.std.specs.Int.{int_min}
 use Rattle.std.specs.List.{range_with_len}
-use Rattle.std.proofs.lemmas.Int.{ints, clamps}
+use Rattle.std.proofs.lemmas.Int.{ints}
 use Rattle.std.proofs.lemmas.List.Elements.{filter-append}
 use Rattle.std.proofs.lemmas.List.FromFn.{map-range_with_len_more}
 use Rattle.std.proofs.lemmas.List.Sums.{fold-append}
@@ -14,7 +14,7 @@ use Rattle.amr_playout.specs.Window.{at, item, repeated, window_of}
 use Rattle.spec_payload.specs.Values.{Value}
 use Rattle.amr_playout.proofs.Cells.{copy, put_one}
 use Rattle.amr_playout.proofs.Counts.{repeated_more}
-use Rattle.spec_session.specs.Copies.{Copy, copies_in, copy_at, in_time}
+use Rattle.spec_session.specs.Copies.{Copy, copy_at, in_time}
 use Rattle.spec_session.specs.Quality.{better}
 use Rattle.spec_session.specs.Release.{best_at, least}
 use Rattle.spec_session.specs.Session.{Accepted, Rules, block_place}

@@ -1,5 +1,6 @@
 pub mod Copied
 pub mod Gains
+pub mod Heard
 pub mod Plans
 pub mod Receiver
 pub mod Refusals

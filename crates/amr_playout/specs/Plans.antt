@@ -1,5 +1,5 @@
 -- Plans of receivers: which are valid is this project's own.
-use Rattle.std.specs.Prelude.{◌≡◌, ℕ, max, ◌||◌, nat_eq, nat_lt, List, [], ◌∷◌, Option, Some, None, option_map}
+use Rattle.std.specs.Prelude.{◌≡◌, ℕ, max, ◌||◌, nat_eq, nat_lt, [], ◌∷◌, Option, Some, None, option_map}
 use Rattle.amr_frame.specs.First.{when, first}
 use Rattle.amr_frame.specs.Profiles.{group_bound, profile_fault}
 use Rattle.amr_playout.specs.declared.plan.Plan.{Plan}

@@ -1,5 +1,5 @@
 -- What contracts see of a receiver, and what it stands for. This project's own.
-use Rattle.std.specs.Prelude.{◌≡◌, ℕ, Bool, false, List, length, map, sum, ℤ, Option, None, Some, option_map}
+use Rattle.std.specs.Prelude.{◌≡◌, ℕ, ◌+◌, ◌^◌, ◌<◌, ◌≤◌, Bool, false, List, length, map, sum, ℤ, Option, Some, None, option_map}
 use Rattle.amr_frame.specs.Frames.{Frame}
 use Rattle.amr_playout.specs.declared.answers.Kept.{Kept}
 use Rattle.amr_playout.specs.declared.plan.Plan.{Plan}
@@ -51,3 +51,10 @@ sent plan h = sent_of (rules_in plan) (accepted (rules_in plan) h)
 -- the horizon
 abbrev pub horizon_in : Option Begun → Option ℤ
 horizon_in session = option_map (λ (s : Begun). at s.horizon) session
+
+-- how far a packet takes the horizon, and how many blocks go out on the way at most
+abbrev pub Grows : Plan → Option Begun → Option Begun → ℕ → Type 0
+Grows plan before None released = ⊥
+Grows plan None (Some s) released = (released ≡ 0) × (s.horizon < 2 ^ 24 + plan.window)
+Grows plan (Some t) (Some s) released = (t.horizon + released ≤ s.horizon) × (s.horizon ≤ t.horizon + plan.reach)
+

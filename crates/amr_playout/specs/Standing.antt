@@ -1,6 +1,5 @@
 -- What a receiver keeps of a session. This project's own.
-use Rattle.std.specs.Prelude.{⊤, ◌≡◌, ℕ, max, ◌+◌, ◌-◌, ◌*◌, ◌^◌, ◌<◌, ◌≤◌, List, [], ◌∷◌, length, replicate, ℤ, pos, ◌-ℤ◌, ◌≤ℤ◌, ◌<ℤ◌, Option, Some, None, option_map}
-use Rattle.std.specs.Int.{int_max}
+use Rattle.std.specs.Prelude.{⊤, ◌≡◌, ℕ, max, ◌+◌, ◌-◌, ◌*◌, ◌^◌, ◌<◌, ◌≤◌, List, [], ◌∷◌, length, replicate, ℤ, pos, ◌-ℤ◌, Option, Some, None, option_map}
 use Rattle.amr_frame.specs.Frames.{Frame}
 use Rattle.amr_playout.specs.declared.session.Begun.{Begun}
 use Rattle.amr_playout.specs.declared.session.Head.{Head}

@@ -1,5 +1,5 @@
 -- The cells of a window, block by block and within a block in channel order. This project's own.
-use Rattle.std.specs.Prelude.{ℕ, ◌+◌, ◌-◌, ◌*◌, ◌/◌, ◌%◌, ◌^◌, List, length, map, slice_index_or, ℤ, pos, ◌+ℤ◌, ◌-ℤ◌, Option, None}
+use Rattle.std.specs.Prelude.{ℕ, ◌-◌, ◌*◌, ◌/◌, ◌%◌, ◌^◌, List, length, map, slice_index_or, ℤ, pos, ◌+ℤ◌, ◌-ℤ◌, Option, None}
 use Rattle.std.specs.List.{range_with_len}
 use Rattle.amr_frame.specs.Cells.{held}
 use Rattle.amr_frame.specs.Frames.{Frame}

@@ -40,7 +40,12 @@ pub fn judge<P: Frames>(
             got: head.ssrc,
         });
     }
-    let place = match place_of(plan.profile.codec, session.origin, head.timestamp, session.horizon) {
+    let place = match place_of(
+        plan.profile.codec,
+        session.origin,
+        head.timestamp,
+        session.horizon,
+    ) {
         Ok(place) => place,
         Err(delta) => return Err(Offered::OffGrid { delta }),
     };

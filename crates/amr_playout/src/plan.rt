@@ -39,7 +39,9 @@ impl Plan {
             return Err(PlanFault::Profile(fault));
         }
         let least = match self.profile.interleaving {
-            Some(blocks) if blocks.min(1024) > u16::from(self.profile.max_blocks) => blocks.min(1024),
+            Some(blocks) if blocks.min(1024) > u16::from(self.profile.max_blocks) => blocks.min(
+                1024,
+            ),
             _ => u16::from(self.profile.max_blocks),
         };
         if self.window < least || self.window > 4096 {

@@ -45,7 +45,7 @@ impl Model for Receiver {
 }
 
 impl Receiver {
-    ghost use Rattle.amr_playout.specs.Receiver.{StandsFor, horizon_in, sent};
+    ghost use Rattle.amr_playout.specs.Receiver.{Grows, StandsFor, horizon_in, sent};
 
     /// A receiver that has heard nothing, with room for each channel of each place of the window.
     pub fn create(alloc: Global, plan: Plan) -> Result<Receiver, AllocError>
@@ -118,6 +118,7 @@ impl Receiver {
           copies = self.old.counts.copies + t.copies;
           blocks = self.old.counts.blocks + t.released;
         }) }
+        ensures grows { IfOk result (λ t. Grows self.old.plan self.old.session self.new.session t.released) }
 
         ensures refused { IfErr result (λ e. OnRefusal e ((self.new ≡ self.old) × (out.new ≡ out.old))) }
         ensures verdict { IfErr result (λ e. OnRefusal e ((h : List Packet) → StandsFor self.old h
@@ -137,7 +138,14 @@ impl Receiver {
         ensures same { B.same out.old out.new }
         ensures kept { OnOk result ((B.ready out.new ≡ true) × (B.codec out.new ≡ B.codec out.old) × (B.channels out.new ≡ B.channels out.old)) }
     {
-        let step = match receive(&mut self.ring, &self.plan, &self.session, head, payload, out) {
+        let step = match receive(
+            &mut self.ring,
+            &self.plan,
+            &self.session,
+            head,
+            payload,
+            out,
+        ) {
             Ok(step) => step,
             Err(Offered::BlockFault) => {
                 self.spent = true;

@@ -69,12 +69,7 @@ pub fn push_block(
 }
 
 /// Merges a frame into a cell, and tells whether the cell had one.
-pub fn merge(
-    ring: &mut HeapCircularBuffer<Cell>,
-    codec: Codec,
-    index: usize,
-    frame: &Cell,
-) -> bool
+pub fn merge(ring: &mut HeapCircularBuffer<Cell>, codec: Codec, index: usize, frame: &Cell) -> bool
     requires within { index < length ring.old.items }
     requires valid { AllByRecursion (IsCell codec) ring.old.items }
     requires frame { IsCell codec frame.now }

@@ -89,7 +89,11 @@ fn take_in(
     let had = take_frame(ring, plan, base, place, channel, frame);
     Merged {
         next: lower(so_far.next, place),
-        copies: if had { so_far.copies + 1 } else { so_far.copies },
+        copies: if had {
+            so_far.copies + 1
+        } else {
+            so_far.copies
+        },
     }
 }
 
@@ -138,7 +142,16 @@ pub fn take_all<P: Frames>(
     for index in 0..payload.frames() {
         let spot = place + (index / channels) as u64 * stride as u64;
         let frame = payload.frame(index);
-        merged = take_in(ring, plan, base, edge, spot, index % channels, &frame, merged);
+        merged = take_in(
+            ring,
+            plan,
+            base,
+            edge,
+            spot,
+            index % channels,
+            &frame,
+            merged,
+        );
     }
     merged
 }

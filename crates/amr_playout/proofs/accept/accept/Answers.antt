@@ -1,4 +1,4 @@
-use Rattle.std.proofs.Common.{◌≡◌, ℕ, ◌+◌, ◌-◌, ◌*◌, List, [], ◌∷◌, ◌++◌, length, refl, sym, ap, ◌∙◌, subst, arith, Option}
+use Rattle.std.proofs.Common.{◌≡◌, ℕ, ◌+◌, ◌-◌, List, ◌++◌, length, refl, sym, ap, ◌∙◌, subst, arith, Option}
 use Rattle.amr_frame.specs.Frames.{Frame}
 use Rattle.amr_playout.proofs.Accepting.{IsMerged, IsPlaced, base_at, before_sent, before_shows, is_placed, next_inside, sent_after, step_holds}
 use Rattle.amr_playout.proofs.Holding.{copies_of_more}
@@ -6,10 +6,10 @@ use Rattle.amr_playout.proofs.Plans.{Facts, facts}
 use Rattle.amr_playout.proofs.Results.{on_err}
 use Rattle.amr_playout.specs.Copied.{IsEdge}
 use Rattle.amr_playout.specs.Plans.{rules_in}
-use Rattle.amr_playout.specs.Standing.{edge_with, horizon_with, placed, sent_of}
+use Rattle.amr_playout.specs.Standing.{horizon_with, placed}
 use Rattle.amr_playout.specs.Window.{at, base_of, held_of, repeated, window_of}
 use Rattle.spec_payload.specs.Values.{Value}
-use Rattle.spec_session.specs.Copies.{Copy, copies_in, copies_of}
+use Rattle.spec_session.specs.Copies.{copies_in, copies_of}
 use Rattle.spec_session.specs.Session.{Accepted, Rules}
 use Rattle.amr_playout.proofs.accept.accept.Goals as goal
 use Rattle.amr_playout.proofs.accept.accept.Goals.{After-start_of-source}

@@ -1,4 +1,4 @@
-use Rattle.std.proofs.Common.{◌≡◌, ℕ, ◌+◌, ◌-◌, ◌*◌, ◌/◌, ◌<◌, arith, length, refl, sym, ap, ◌∙◌}
+use Rattle.std.proofs.Common.{◌≡◌, ◌-◌, ◌*◌, ◌/◌, arith, length, sym, ap, ◌∙◌}
 use Rattle.amr_playout.proofs.Payloads.{Fitting, fitting}
 use Rattle.amr_playout.proofs.Plans.{facts}
 use Rattle.spec_payload.specs.Values.{Value}

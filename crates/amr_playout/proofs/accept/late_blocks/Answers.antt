@@ -1,4 +1,4 @@
-use Rattle.std.proofs.Common.{◌≡◌, ℕ, ◌+◌, ◌*◌, ◌/◌, arith, length, cond, refl, sym, ap, ◌∙◌}
+use Rattle.std.proofs.Common.{◌≡◌, ℕ, ◌+◌, ◌*◌, ◌/◌, arith, length, cond, sym, ap, ◌∙◌}
 use Rattle.std.specs.Prelude.{int_lt, not}
 use Rattle.amr_playout.proofs.Late.{count_more, count_to}
 use Rattle.amr_playout.proofs.Taking.{place_up, spot_at}

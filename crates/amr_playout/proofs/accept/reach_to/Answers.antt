@@ -1,4 +1,4 @@
-use Rattle.std.proofs.Common.{◌≡◌, ℕ, refl, sym, ap, ◌∙◌, arith, length, append-nil, ◌++◌, []}
+use Rattle.std.proofs.Common.{refl, sym, ap, ◌∙◌, arith, length, append-nil, []}
 use Rattle.amr_playout.proofs.Accepting.{none_goes, none_shows}
 use Rattle.amr_playout.proofs.Plans.{facts}
 use Rattle.amr_playout.specs.Plans.{rules_in}

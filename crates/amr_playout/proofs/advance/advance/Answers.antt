@@ -1,12 +1,11 @@
-use Rattle.std.proofs.Common.{◌≡◌, ℕ, ◌+◌, ◌-◌, ◌*◌, ◌<◌, ◌≤◌, List, [], ◌∷◌, ◌++◌, length, map, take, drop, arith, ap, subst, sym, ◌∙◌, refl, IsTrue, Option}
+use Rattle.std.proofs.Common.{◌≡◌, ℕ, ◌+◌, ◌-◌, ◌≤◌, List, length, arith, ap, subst, sym, ◌∙◌, refl, Option}
 use Rattle.amr_frame.proofs.BlocksLemmas.{GotBlocks-more, GotPrefix-part}
 use Rattle.amr_frame.specs.Blocks.{GotBlocks, GotPrefix, frames_of}
 use Rattle.amr_frame.specs.Frames.{Frame}
-use Rattle.amr_frame.specs.declared.cell.Cell.{Cell}
 use Rattle.amr_playout.proofs.Results.{on_err}
 use Rattle.amr_playout.proofs.Spans.{row_out, rows_more, rows_none, rows_rest, slid_0, slid_on}
 use Rattle.amr_playout.proofs.CellLists.{length-held}
-use Rattle.amr_playout.specs.Window.{held_of, row, rows, slid}
+use Rattle.amr_playout.specs.Window.{held_of, row, rows}
 use Rattle.amr_playout.proofs.advance.advance.Goals as goal
 use Rattle.amr_playout.proofs.advance.advance.Goals.{then-skip-at+in_ok-put_block, else-skip-at}
 

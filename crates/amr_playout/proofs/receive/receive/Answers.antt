@@ -1,4 +1,4 @@
-use Rattle.std.proofs.Common.{◌≡◌, ℕ, ◌+◌, refl, sym, ap, ◌∙◌, arith}
+use Rattle.std.proofs.Common.{◌+◌, sym, ap, ◌∙◌, arith}
 use Rattle.std.specs.Prelude.{map, sum}
 use Rattle.amr_playout.proofs.Accepting.{late_more}
 use Rattle.amr_playout.proofs.Results.{no_fault}

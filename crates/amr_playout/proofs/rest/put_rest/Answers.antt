@@ -1,4 +1,4 @@
-use Rattle.std.proofs.Common.{◌≡◌, ℕ, ◌+◌, ◌-◌, ◌++◌, List, length, refl, sym, ap, ◌∙◌, subst, arith, Option, Some, pos, ◌-ℤ◌}
+use Rattle.std.proofs.Common.{◌≡◌, ℕ, ◌+◌, ◌++◌, List, length, sym, ap, ◌∙◌, subst, arith, Option, Some, pos, ◌-ℤ◌}
 use Rattle.amr_frame.specs.Frames.{Frame}
 use Rattle.amr_playout.proofs.Accepting.{before_sent, before_shows, rest_is}
 use Rattle.amr_playout.proofs.Results.{on_err}
@@ -6,7 +6,7 @@ use Rattle.amr_playout.specs.Plans.{rules_in}
 use Rattle.amr_playout.specs.Standing.{Holds}
 use Rattle.amr_playout.specs.Window.{at, held_of, out_to}
 use Rattle.amr_playout.specs.declared.session.Begun.{Begun}
-use Rattle.spec_session.specs.Copies.{Copy, copies_of}
+use Rattle.spec_session.specs.Copies.{copies_of}
 use Rattle.spec_session.specs.Release.{released_of}
 use Rattle.spec_session.specs.Session.{Accepted, Rules}
 use Rattle.amr_playout.proofs.rest.put_rest.Goals as goal

@@ -1,9 +1,8 @@
 use Rattle.amr_frame.specs.Frames.{Frame}
-use Rattle.std.proofs.Common.{Option, None, ◌≡◌, ℕ, arith, ap, sym, ◌∙◌, replicate}
+use Rattle.std.proofs.Common.{Option, None, ◌≡◌, arith, ap, sym, ◌∙◌, replicate}
 use Rattle.std.specs.List.{AllByRecursion}
 use Rattle.amr_frame.specs.Cells.{IsCell}
-use Rattle.amr_frame.specs.declared.cell.Cell.{Cell}
-use Rattle.std.proofs.Common.{List, subst}
+use Rattle.std.proofs.Common.{subst}
 use Rattle.amr_playout.proofs.CellLists.{absent_is, all-replicate, held-replicate}
 use Rattle.amr_playout.specs.Window.{held_of}
 use Rattle.amr_playout.proofs.ring.absent_ring.Goals as goal

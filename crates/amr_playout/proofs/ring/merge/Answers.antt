@@ -1,9 +1,9 @@
-use Rattle.std.proofs.Common.{◌≡◌, ℕ, List, refl, sym, ap, ◌∙◌, set}
+use Rattle.std.proofs.Common.{ℕ, List, sym, ap, ◌∙◌, set}
 use Rattle.std.specs.Prelude.{is_some}
 use Rattle.amr_frame.specs.Cells.{held}
 use Rattle.amr_frame.specs.declared.cell.Cell.{Cell}
 use Rattle.amr_playout.proofs.CellLists.{held-set, no_slot, present_some, slot}
-use Rattle.amr_playout.specs.Window.{held_of, item}
+use Rattle.amr_playout.specs.Window.{held_of}
 use Rattle.spec_session.specs.Quality.{better}
 use Rattle.amr_playout.proofs.ring.merge.Goals as goal
 

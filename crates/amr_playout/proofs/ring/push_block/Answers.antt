@@ -5,9 +5,9 @@ use Rattle.amr_frame.specs.Blocks.{frames_of}
 use Rattle.amr_frame.specs.Cells.{IsCell, frame_of, held}
 use Rattle.amr_frame.specs.Frames.{Frame, IsFrame}
 use Rattle.amr_frame.specs.declared.cell.Cell.{Cell}
-use Rattle.amr_playout.proofs.CellLists.{absent_is, all-append, all-drop, all-get, all-replicate, held-append, held-drop, held-get, held-replicate, length-held}
+use Rattle.amr_playout.proofs.CellLists.{absent_is, all-append, all-drop, all-replicate, held-append, held-drop, held-get, held-replicate, length-held}
 use Rattle.amr_playout.proofs.Spans.{front_out, length-pushed, popped, pushed}
-use Rattle.amr_playout.specs.Window.{held_of, item}
+use Rattle.amr_playout.specs.Window.{held_of}
 use Rattle.spec_session.specs.Quality.{stored}
 use Rattle.amr_playout.proofs.ring.push_block.Goals as goal
 

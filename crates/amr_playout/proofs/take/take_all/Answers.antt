@@ -1,13 +1,12 @@
-use Rattle.std.proofs.Common.{◌≡◌, ℕ, ◌+◌, ◌*◌, ◌-◌, ◌<◌, ◌≤◌, ◌/◌, ◌%◌, ◌++◌, List, length, arith, refl, sym, ap, ◌∙◌, slice_index_or}
+use Rattle.std.proofs.Common.{◌≡◌, ℕ, ◌+◌, ◌*◌, ◌-◌, ◌≤◌, ◌/◌, ◌%◌, ◌++◌, length, arith, sym, ap, ◌∙◌}
 use Rattle.std.proofs.lemmas.Nat.{mul-le}
 use Rattle.amr_frame.specs.Cells.{frame_of}
-use Rattle.amr_frame.specs.Frames.{Frame, no_data}
+use Rattle.amr_frame.specs.Frames.{Frame}
 use Rattle.amr_playout.proofs.Taking.{block_of, frame_more, frame_more_least}
 use Rattle.amr_playout.specs.Copied.{copies_to, newly}
 use Rattle.amr_playout.specs.Plans.{rules_in}
 use Rattle.amr_playout.specs.Window.{at, repeated, window_of}
 use Rattle.spec_payload.specs.Values.{Value}
-use Rattle.spec_session.specs.Copies.{Copy}
 use Rattle.spec_session.specs.Release.{least}
 use Rattle.spec_session.specs.Session.{Rules}
 use Rattle.amr_playout.proofs.take.take_all.Goals as goal

@@ -1,8 +1,8 @@
-use Rattle.std.proofs.Common.{◌≡◌, ℕ, ℤ, pos, ◌+ℤ◌, ◌+◌, ◌-◌, ◌*◌, ◌<◌, arith, refl, sym, ap, ◌∙◌, set}
+use Rattle.std.proofs.Common.{◌≡◌, ℕ, pos, ◌+ℤ◌, ◌+◌, ◌-◌, ◌*◌, ◌<◌, arith, ap, ◌∙◌, set}
 use Rattle.std.specs.Prelude.{is_some}
 use Rattle.std.proofs.lemmas.Int.{ints}
-use Rattle.amr_frame.specs.Cells.{frame_of, held}
-use Rattle.amr_playout.proofs.CellLists.{length-held, present_held}
+use Rattle.amr_frame.specs.Cells.{frame_of}
+use Rattle.amr_playout.proofs.CellLists.{present_held}
 use Rattle.amr_playout.proofs.Cells.{in_window, item_at}
 use Rattle.amr_playout.proofs.Taking.{put_newly}
 use Rattle.amr_playout.specs.Plans.{rules_in}

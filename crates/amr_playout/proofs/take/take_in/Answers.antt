@@ -1,11 +1,10 @@
-use Rattle.std.proofs.Common.{◌≡◌, ℕ, ◌+◌, ◌++◌, arith, refl, sym, ap, ◌∙◌}
+use Rattle.std.proofs.Common.{◌++◌, arith, sym, ap, ◌∙◌}
 use Rattle.std.proofs.lemmas.Int.{ints}
 use Rattle.std.specs.Prelude.{◌≤ℤ◌, ◌<ℤ◌}
 use Rattle.amr_frame.specs.Cells.{frame_of}
 use Rattle.amr_playout.proofs.Taking.{newly_same, repeated_step}
 use Rattle.amr_playout.specs.Plans.{rules_in}
-use Rattle.amr_playout.specs.Window.{at, repeated, window_of}
-use Rattle.spec_session.specs.Session.{Rules}
+use Rattle.amr_playout.specs.Window.{at, window_of}
 use Rattle.amr_playout.proofs.take.take_in.Goals as goal
 
 pub returns-then-had-clause-cells : goal.returns-then-had-clause-cells

@@ -1,7 +1,6 @@
-use Rattle.std.proofs.Common.{◌≡◌, ℕ, ◌+◌, ◌++◌, List, [], ◌∷◌, length, refl, sym, ap, ◌∙◌, subst, arith, Option, Some}
+use Rattle.std.proofs.Common.{◌≡◌, ◌++◌, List, [], ◌∷◌, length, sym, ap, ◌∙◌, subst, arith, Some}
 use Rattle.std.specs.Prelude.{map, sum}
 use Rattle.std.proofs.lemmas.List.Sums.{fold-append}
-use Rattle.amr_frame.specs.Frames.{Frame}
 use Rattle.amr_playout.specs.Gains.{Gains}
 use Rattle.amr_playout.specs.Plans.{rules_in}
 use Rattle.amr_playout.specs.Receiver.{StandsFor, View, sent, view_of}
