@@ -23,3 +23,6 @@ pub use frames::Frames;
 pub use plan::{Plan, PlanFault};
 pub use receiver::Receiver;
 pub use session::{Begun, Head};
+
+#[cfg(test)]
+mod tests;

@@ -77,6 +77,7 @@ impl Receiver {
             → GainsPart B.whole B.part out.old out.new (sent self.old.plan h) (sent self.old.plan (h ++ heard rtp.now payload.now ∷ [])))) }
         ensures cause { IfErr result (λ e. OnFault e (Rose (B.faults out.old) (B.faults out.new))) }
         ensures spent { IfErr result (λ e. OnFault e ((self.new.spent ≡ true) × (self.new.counts ≡ self.old.counts))) }
+        ensures unspent { OnOk result (self.new.spent ≡ false) }
         ensures no_fault { OnOk result (B.faults out.new ≡ B.faults out.old) }
 
         ensures plan { self.new.plan ≡ self.old.plan }

@@ -53,6 +53,8 @@ impl Receiver {
         ensures stands { IfOk result (λ r. StandsFor r []) }
         ensures plan { IfOk result (λ r. r.plan ≡ plan) }
         ensures session { IfOk result (λ r. r.session ≡ None) }
+        ensures unspent { IfOk result (λ r. r.spent ≡ false) }
+        ensures counts { IfOk result (λ r. r.counts ≡ record { late = 0; copies = 0; blocks = 0 }) }
         ensures room { IfOk result (λ r. length r.cells ≡ plan.window * plan.profile.channels) }
     {
         let cells = usize::from(plan.window) * usize::from(plan.profile.channels);
@@ -131,6 +133,7 @@ impl Receiver {
             → GainsPart B.whole B.part out.old out.new (sent self.old.plan h) (sent self.old.plan (h ++ packet head.now (P.value payload.now) ∷ [])))) }
         ensures cause { IfErr result (λ e. OnFault e (Rose (B.faults out.old) (B.faults out.new))) }
         ensures spent { IfErr result (λ e. OnFault e ((self.new.spent ≡ true) × (self.new.counts ≡ self.old.counts))) }
+        ensures unspent { OnOk result (self.new.spent ≡ false) }
         ensures no_fault { OnOk result (B.faults out.new ≡ B.faults out.old) }
 
         ensures plan { self.new.plan ≡ self.old.plan }
