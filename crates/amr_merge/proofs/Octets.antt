@@ -1,5 +1,5 @@
 -- Octets compare as their bits do.
-use Rattle.std.proofs.Common.{◌≡◌, ℕ, zero, suc, ◌+◌, ◌-◌, ◌*◌, ◌/◌, ◌^◌, ◌%◌, ◌<◌, ◌≤◌, Bool, nat_eq, true, false, cond, List, [], ◌∷◌, ◌++◌, length, take, drop, map, get_or, replicate, refl, sym, ap, ◌∙◌, arith, inl, inr}
+use Rattle.std.proofs.Common.{◌≡◌, ℕ, suc, ◌+◌, ◌-◌, ◌*◌, ◌/◌, ◌^◌, ◌%◌, ◌<◌, ◌≤◌, Bool, nat_eq, true, false, cond, List, [], ◌∷◌, ◌++◌, length, take, drop, get_or, refl, sym, ap, ◌∙◌, arith, inl, inr}
 use Rattle.std.proofs.lemmas.Bool.{cases_lt}
 use Rattle.std.proofs.lemmas.List.{get_or-take, length-take, length-take-le, take-append-drop}
 use Rattle.std.specs.declared.cmp.Ordering.{Ordering}
@@ -9,7 +9,7 @@ use Rattle.std.specs.Cmp.{nat_cmp_is, tied_itself}
 use Rattle.std.specs.Cmp.Lexicographic.{slice_cmp, nat_list_cmp_total}
 use Rattle.amr_bits.specs.Bits.{number, bit_at, bits_at}
 use Rattle.amr_bits.proofs.Numbers.{number-cons, number-lt}
-use Rattle.amr_bits.proofs.Runs.{run-split, run-octet, run-drop, run-same, run-append, length-run, bit_at-past}
+use Rattle.amr_bits.proofs.Runs.{run-split, run-drop, run-same, run-append, length-run, bit_at-past}
 use Rattle.amr_bits.proofs.Places.{number_at-octet}
 use Rattle.amr_merge.specs.Numbers.{numbers}
 

@@ -2,7 +2,7 @@
 use Rattle.std.proofs.Common.{◌≡◌, ℕ, ◌<◌, Bool, true, false, cond, get_or, length, refl, sym, ap, ◌∙◌, arith, Option, Some, None}
 use Rattle.std.specs.declared.cmp.Ordering.{Ordering}
 use Rattle.std.specs.declared.cmp.Ordering.TheVariants.{Less, Equal, Greater}
-use Rattle.std.specs.Ordering.{is_lt, nat_cmp, bool_cmp, ordering_then}
+use Rattle.std.specs.Ordering.{nat_cmp, bool_cmp, ordering_then}
 use Rattle.std.specs.FinMap.{nat_cmp-IsAntisymmetric}
 use Rattle.amr_bits.specs.Runs.{kept}
 use Rattle.amr_frame.specs.declared.codec.Codec.{Codec}
@@ -10,7 +10,7 @@ use Rattle.amr_frame.specs.declared.codec.Kind.{Kind}
 use Rattle.amr_frame.specs.declared.codec.Kind.TheVariants.{Speech, Sid, Lost, Empty, Reserved}
 use Rattle.amr_frame.specs.declared.cell.Cell.{Cell}
 use Rattle.amr_frame.specs.Cells.{IsCell, IsCellBy, held, frame_of}
-use Rattle.amr_frame.specs.Frames.{Frame, no_data}
+use Rattle.amr_frame.specs.Frames.{Frame}
 use Rattle.amr_frame.specs.Tables.{bits_in, kind_in}
 use Rattle.amr_merge.proofs.Octets.{by_bits, higher, lower, then_assoc}
 use Rattle.payload_laws.proofs.Ranks.{quality_same}

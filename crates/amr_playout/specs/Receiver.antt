@@ -57,4 +57,3 @@ abbrev pub Grows : Plan → Option Begun → Option Begun → ℕ → Type 0
 Grows plan before None released = ⊥
 Grows plan None (Some s) released = (released ≡ 0) × (s.horizon < 2 ^ 24 + plan.window)
 Grows plan (Some t) (Some s) released = (t.horizon + released ≤ s.horizon) × (s.horizon ≤ t.horizon + plan.reach)
-

@@ -1,4 +1,4 @@
-use Rattle.std.proofs.Common.{◌≡◌, ℕ, refl, sym, ap, ◌∙◌, arith}
+use Rattle.std.proofs.Common.{◌∙◌, arith}
 use Rattle.amr_merge.proofs.Octets.{front_as_bits}
 use Rattle.amr_merge.proofs.order.compare_front.Goals as goal
 

@@ -1,7 +1,6 @@
 use Rattle.std.proofs.Common.{◌≡◌, Bool, true, false, refl, arith, subst}
 use Rattle.amr_frame.specs.Cells.{IsCellBy, frame_of}
 use Rattle.amr_frame.specs.Frames.{Frame, IsFrame}
-use Rattle.amr_frame.specs.declared.codec.Codec.{Codec}
 use Rattle.amr_frame.specs.declared.codec.Codec.TheVariants.{Amr}
 use Rattle.amr_playout.proofs.tests.SingleFrames.frames.Goals as goal
 
