@@ -1,7 +1,7 @@
 -- The first rule that a bandwidth-efficient payload breaks, by the table that is read of it.
 use Rattle.std.proofs.Common.{◌≡◌, ℕ, ◌+◌, ◌*◌, ◌%◌, ◌<◌, ◌≤◌, Bool, true, false, eqb, ltb, List, [], ◌∷◌, length, map, refl, ap, ◌∙◌, sym, subst, arith, Option, Some, None}
 use Rattle.std.specs.Prelude.{sum, ◌⊎◌, Ok}
-use Rattle.std.proofs.lemmas.Bool.{eq-eqb, ne_eqb, lt-ltb, le-ltb, ltb-false}
+use Rattle.std.proofs.lemmas.Bool.{eq-eqb, ne_eqb, le-ltb, ltb-false}
 use Rattle.std.proofs.lemmas.List.{length-map}
 use Rattle.amr_bits.specs.Bits.{bits_at, octets_for}
 use Rattle.amr_frame.specs.declared.codec.Codec.{Codec}
@@ -13,6 +13,7 @@ use Rattle.amr_be.specs.Needs.{misfit, need_by}
 use Rattle.amr_toc.specs.declared.entry.Entry.{Entry}
 use Rattle.amr_toc.specs.Lists.{types_of, toc_at}
 use Rattle.amr_toc.specs.Table.{table_of, table_refusal, fault_of, last_of}
+use Rattle.amr_toc.specs.Told.{IsAccepted, IsRefused}
 use Rattle.amr_toc.proofs.InPayload.{last_same, last_fault, table_same}
 use Rattle.amr_toc.proofs.Shown.{types_same}
 use Rattle.payload_laws.proofs.Formats.{plain, plain_of, plain_is, first_none, when_none}
@@ -45,10 +46,10 @@ at_none e d l x z y o t h f g k =
 
 -- the rules of a payload, of which the first n bits behind the header are read for the table
 pub record Rules (p : Profile) (octets : List ℕ) (n : ℕ) : Type 0 where
-  pub table : (r : PayloadRefusal) → 0 < length octets → table_refusal p 6 (bits_at octets 4 n) ≡ Some r → payload_refusal p octets ≡ Some r
+  pub table : (r : PayloadRefusal) → 0 < length octets → table_refusal p 6 (bits_at octets 4 n) ≡ Some r → IsRefused p octets r
   pub listed : table_refusal p 6 (bits_at octets 4 n) ≡ None → table_of p 6 (bits_at octets 4 n) ≡ toc_at p octets
-  pub unfit : (r : PayloadRefusal) → 0 < length octets → table_refusal p 6 (bits_at octets 4 n) ≡ None → misfit (need p (types p octets)) (length octets) ≡ Some r → payload_refusal p octets ≡ Some r
-  pub none : 0 < length octets → table_refusal p 6 (bits_at octets 4 n) ≡ None → need p (types p octets) ≡ length octets → payload_refusal p octets ≡ None
+  pub unfit : (r : PayloadRefusal) → 0 < length octets → table_refusal p 6 (bits_at octets 4 n) ≡ None → misfit (need p (types p octets)) (length octets) ≡ Some r → IsRefused p octets r
+  pub none : 0 < length octets → table_refusal p 6 (bits_at octets 4 n) ≡ None → need p (types p octets) ≡ length octets → IsAccepted p octets
   pub size : (es : List Entry) → es ≡ toc_at p octets → need_by p.codec es ≡ need p (types p octets)
 
 module _ (codec : Codec) (c m : ℕ) (octets : List ℕ) (n : ℕ) (fits : 4 + n ≤ 8 * length octets) (enough : (4 + n ≡ 8 * length octets) ⊎ (3080 ≤ n)) (few : m * c ≤ 384) where
@@ -74,10 +75,10 @@ module _ (codec : Codec) (c m : ℕ) (octets : List ℕ) (n : ℕ) (fits : 4 + n
       let fault = entry_fault p octets (last_entry p octets) in
       let rest = when (ltb 0 (entries p octets % c)) (why.ChannelRest (entries p octets)) in
       record {
-        table = λ r h e. at_table (eqb have 0) why.Empty r fault rest _ (some h) (sym same ∙ e);
+        table = λ r h e. record { first = at_table (eqb have 0) why.Empty r fault rest _ (some h) (sym same ∙ e) };
         listed = λ e. table_same p octets n fits enough few (first_none (fault_of p 6 bits (last_of p 6 bits)) _ e).0;
-        unfit = λ r h e l. at_misfit (eqb have 0) why.Empty r fault rest _ (some h) (sym same ∙ e) l;
-        none = λ h e l. at_none (eqb have 0) (ltb have need_is) (ltb need_is have) why.Empty (why.BodyShort need_is have) (why.BodyLong need_is have) fault rest (some h) (sym same ∙ e) (le-ltb have need_is (omega arith)) (le-ltb need_is have (omega arith));
+        unfit = λ r h e l. record { first = at_misfit (eqb have 0) why.Empty r fault rest _ (some h) (sym same ∙ e) l };
+        none = λ h e l. record { none = at_none (eqb have 0) (ltb have need_is) (ltb need_is have) why.Empty (why.BodyShort need_is have) (why.BodyLong need_is have) fault rest (some h) (sym same ∙ e) (le-ltb have need_is (omega arith)) (le-ltb need_is have (omega arith)) };
         size = λ es e.
             let ts : types_of es ≡ fts = ap types_of e ∙ types_same p octets in
             let l : length es ≡ length fts = sym (length-map es (λ (x : Entry). x.ft)) ∙ ap length ts in
@@ -91,8 +92,8 @@ rules p octets n valid packed fits enough few =
     subst (λ q. Rules q octets n) (plain_is p (plain_of p valid packed)) (rules_plain p.codec p.channels p.max_blocks octets n fits enough few)
 
 -- no octet is refused as none
-pub empty_is : (p : Profile) (octets : List ℕ) → length octets ≡ 0 → payload_refusal p octets ≡ Some why.Empty
-empty_is p octets e = at_empty (eqb (length octets) 0) why.Empty _ (eq-eqb (length octets) 0 e)
+pub empty_is : (p : Profile) (octets : List ℕ) → length octets ≡ 0 → IsRefused p octets why.Empty
+empty_is p octets e = record { first = at_empty (eqb (length octets) 0) why.Empty _ (eq-eqb (length octets) 0 e) }
 
 -- a number that isn't 0
 pub above : (n : ℕ) → (n ≡ 0 → ⊥) → 0 < n

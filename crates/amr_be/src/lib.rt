@@ -2,5 +2,7 @@
 #![tactic(auto)]
 
 mod read;
+#[cfg(test)]
+mod tests;
 
 pub use read::read_be;

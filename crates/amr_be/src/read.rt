@@ -2,7 +2,6 @@ ghost use Rattle.std.specs.Prelude.{◌≡◌, ◌+◌, ◌*◌, ◌≤◌, ◌<
 ghost use Rattle.amr_bits.specs.Bits.{bits_at};
 ghost use Rattle.amr_bits.specs.Runs.{run};
 ghost use Rattle.amr_be.specs.Needs.{misfit, need_by};
-
 ghost use Rattle.amr_frame.specs.Profiles.{IsValid};
 ghost use Rattle.amr_toc.specs.Lists.{listed, toc_at};
 ghost use Rattle.amr_toc.specs.Told.{IsAccepted, IsRead, IsRefused};
@@ -10,7 +9,7 @@ ghost use Rattle.amr_toc.specs.Viewed.{format_of, octets_of, viewed};
 
 use amr_bits::BitSlice;
 use amr_frame::Profile;
-use amr_toc::{bits_before, entries_within, read_toc, PayloadRefusal, PayloadView, Toc};
+use amr_toc::{PayloadRefusal, PayloadView, Toc, bits_before, entries_within, read_toc};
 
 /// Reads a bandwidth-efficient payload in place. Refuses octets by the first of P1, P4 to P7, P9 and P10
 /// that holds of them; the others are of interleaved payloads.
@@ -45,7 +44,7 @@ fn accept(profile: &Profile, octets: &[u8]) -> Result<Toc, PayloadRefusal>
     }
     let bits = behind_header(octets);
     entries_within(profile);
-    let toc = match read_toc(profile, bits, entry_width()) {
+    let toc = match read_toc(profile, bits, 6) {
         Ok(toc) => toc,
         Err(why) => return Err(why),
     };
@@ -53,13 +52,6 @@ fn accept(profile: &Profile, octets: &[u8]) -> Result<Toc, PayloadRefusal>
         return Err(why);
     }
     Ok(toc)
-}
-
-/// The bits of an entry of the table.
-fn entry_width() -> u32
-    ensures { result ≡ 6 }
-{
-    6
 }
 
 /// Why so many octets don't fit the table, where they are too few or too many.

@@ -20,4 +20,6 @@ pub enum LastLine {
     OutOfMemory,
     /// The input is longer than the run may read.
     LimitReached,
+    /// A record of the log isn't taken yet.
+    NotBuilt,
 }

@@ -5,4 +5,4 @@ mod frame;
 mod writer;
 
 pub use spec_store::StoreRefusal;
-pub use writer::{Stage, StoreWriter};
+pub use writer::{Stage, StoreWriter, write_cells};

@@ -128,8 +128,10 @@ fn multichannel_magic(codec: Codec) -> &'static [u8]
     }
 }
 
-/// Writes the frames of a block.
-fn write_cells<O: Sink>(cells: &[Cell], sink: &mut O) -> Result<(), Failed>
+/// Writes the frames of a block, as they stand in a file, behind what the sink got.
+///
+/// `Failed` comes only where the sink's faults rose. A front of the octets was then written.
+pub fn write_cells<O: Sink>(cells: &[Cell], sink: &mut O) -> Result<(), Failed>
     requires { AllByRecursion (λ (cell : Cell). cell.ft ≤ 15) cells.now }
 
     ensures whole { OnOk result (Appends (O.got sink.old) (O.got sink.new) (block_text (frames_of cells.now))) }

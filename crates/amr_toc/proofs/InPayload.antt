@@ -12,8 +12,8 @@ use Rattle.amr_frame.specs.First.{when, first}
 use Rattle.amr_frame.specs.Tables.{is_reserved}
 use Rattle.spec_payload.specs.declared.refusal.PayloadRefusal.{PayloadRefusal}
 use Rattle.spec_payload.specs.declared.refusal.PayloadRefusal.TheVariants as why
-use Rattle.spec_payload.specs.Reading.{head_bits, entry_bits, entry_start, type_at, more_at, quality_at, entry_fault, ends_table, last_entry, entries}
-use Rattle.payload_laws.proofs.Formats.{first_none, when_none, is_none_of}
+use Rattle.spec_payload.specs.Reading.{head_bits, entry_bits, type_at, more_at, quality_at, entry_fault, ends_table, last_entry}
+use Rattle.payload_laws.proofs.Formats.{first_none, when_none}
 use Rattle.payload_laws.proofs.Ranges.{first_of_range}
 use Rattle.amr_toc.proofs.Ends.{ends_at_most}
 use Rattle.amr_toc.specs.Lists.{entry_in, toc_at}
@@ -87,9 +87,9 @@ module _ (p : Profile) (octets : List ℕ) (n : ℕ) (fits : head_bits p + n ≤
       let g = greatest p.octet_aligned k most in
       elim (cases_lt n ((k + 1) * w)) [
         | inl t ↦ elim enough [
-            | inl all ↦ lt-ltb (length bits) ((k + 1) * w) (omega arith) ∙ sym (lt-ltb (8 * length octets) (h + (k + 1) * w) (omega arith))
-            | inr long ↦ absurd (omega arith)
-          ]
+          | inl all ↦ lt-ltb (length bits) ((k + 1) * w) (omega arith) ∙ sym (lt-ltb (8 * length octets) (h + (k + 1) * w) (omega arith))
+          | inr long ↦ absurd (omega arith)
+        ]
         | inr t ↦ le-ltb (length bits) ((k + 1) * w) (omega arith) ∙ sym (le-ltb (8 * length octets) (h + (k + 1) * w) (omega arith))
       ]
 

@@ -1,4 +1,5 @@
 pub mod Ends
 pub mod InPayload
+pub mod Filling
 pub mod Shown
 pub mod Sizes

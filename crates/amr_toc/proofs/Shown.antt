@@ -1,5 +1,5 @@
 -- What a bandwidth-efficient payload that isn't refused shows, by entries of its table.
-use Rattle.std.proofs.Common.{◌≡◌, ℕ, zero, suc, ◌+◌, ◌*◌, ◌/◌, ◌%◌, ◌<◌, ◌≤◌, Bool, true, false, cond, eqb, ltb, List, [], ◌∷◌, length, map, take, get_or, refl, ap, ◌∙◌, sym, subst, arith, Option, Some, None}
+use Rattle.std.proofs.Common.{◌≡◌, ℕ, zero, suc, ◌+◌, ◌*◌, ◌/◌, ◌%◌, ◌<◌, ◌≤◌, false, eqb, ltb, List, [], ◌∷◌, length, map, take, get_or, refl, ap, ◌∙◌, sym, subst, arith, None}
 use Rattle.std.specs.Prelude.{sum, Ok, Result}
 use Rattle.std.specs.List.{AllByRecursion, range_with_len}
 use Rattle.std.proofs.lemmas.Bool.{ltb-false}
@@ -11,13 +11,13 @@ use Rattle.std.proofs.Math.Nat.{mul-div_cancel}
 use Rattle.amr_bits.specs.Bits.{bit_at, bits_at, octets_for}
 use Rattle.amr_frame.specs.declared.codec.Codec.{Codec}
 use Rattle.amr_frame.specs.declared.profile.Profile.{Profile}
-use Rattle.amr_frame.specs.First.{when, first}
+use Rattle.amr_frame.specs.First.{when}
 use Rattle.amr_frame.specs.Frames.{Frame, IsFrame, no_data}
 use Rattle.amr_frame.specs.Profiles.{IsValid}
 use Rattle.amr_frame.specs.Tables.{bits_in}
 use Rattle.spec_payload.specs.declared.refusal.PayloadRefusal.{PayloadRefusal}
 use Rattle.spec_payload.specs.declared.refusal.PayloadRefusal.TheVariants as why
-use Rattle.spec_payload.specs.Reading.{entries, entry_start, entry_fault, last_entry, types, type_at, quality_at, frame_at, frame_bit, value_at, checks_at, need, payload_refusal, read_as}
+use Rattle.spec_payload.specs.Reading.{entries, entry_start, entry_fault, last_entry, types, type_at, frame_at, frame_bit, value_at, checks_at, need, payload_refusal, read_as}
 use Rattle.spec_payload.specs.Seen.{seen}
 use Rattle.spec_payload.specs.Values.{Value, IsValue}
 use Rattle.payload_laws.proofs.EachFormat.{in_grammar_of}

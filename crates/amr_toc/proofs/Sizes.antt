@@ -1,5 +1,5 @@
 -- How great the numbers of a table of contents are.
-use Rattle.std.proofs.Common.{◌≡◌, ℕ, zero, suc, ◌+◌, ◌*◌, ◌<◌, ◌≤◌, Bool, true, false, cond, ltb, List, [], ◌∷◌, length, map, take, drop, get_or, ap, sym, subst, refl, ◌∙◌, arith}
+use Rattle.std.proofs.Common.{◌≡◌, ℕ, zero, suc, ◌+◌, ◌*◌, ◌≤◌, Bool, true, false, cond, ltb, List, [], ◌∷◌, map, take, drop, get_or, ap, sym, subst, refl, ◌∙◌, arith}
 use Rattle.std.specs.List.{range_with_len, sum_by}
 use Rattle.std.proofs.lemmas.Bool.{ltb-true}
 use Rattle.std.proofs.lemmas.List.{take-map}
@@ -7,7 +7,7 @@ use Rattle.std.proofs.lemmas.List.FromFn.{get_or-map-range_with_len, length-map-
 use Rattle.std.proofs.lemmas.List.Sums.{sum-map}
 use Rattle.std.proofs.lemmas.Simd.{map-map}
 use Rattle.std.specs.Prelude.{sum}
-use Rattle.amr_bits.specs.Bits.{number, part}
+use Rattle.amr_bits.specs.Bits.{number}
 use Rattle.amr_frame.specs.declared.codec.Codec.{Codec}
 use Rattle.amr_frame.specs.declared.codec.Codec.TheVariants.{Amr, AmrWb}
 use Rattle.amr_frame.specs.declared.codec.Kind.TheVariants.{Reserved}

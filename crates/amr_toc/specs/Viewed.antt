@@ -1,11 +1,8 @@
 -- A payload that is read in place, and what it shows (RFC 4867, 4.3 and 4.4).
-use Rattle.std.specs.Prelude.{ℕ, Bool, not, ◌&&◌, nat_eq, List, length, map, filter, take, slice_index, slice_index_or}
-use Rattle.std.specs.List.{range_with_len}
+use Rattle.std.specs.Prelude.{ℕ, Bool, not, ◌&&◌, nat_eq, List, length, filter, take, slice_index, slice_index_or}
 use Rattle.amr_frame.specs.declared.profile.Profile.{Profile}
 use Rattle.amr_frame.specs.Frames.{Frame, no_data}
-use Rattle.amr_toc.specs.declared.entry.Entry.{Entry}
 use Rattle.amr_toc.specs.declared.view.PayloadView.{PayloadView}
-use Rattle.amr_toc.specs.Lists.{toc_at}
 use Rattle.spec_payload.specs.Grammar.{check_of}
 use Rattle.spec_payload.specs.Reading.{value_at, checks_at}
 use Rattle.spec_payload.specs.Seen.{seen}

@@ -2,10 +2,11 @@
 #![tactic(auto)]
 
 mod entry;
+mod octets;
 mod read;
 mod view;
 
 pub use entry::{Entry, Toc};
 pub use read::{entries_within, read_toc};
 pub use spec_payload::PayloadRefusal;
-pub use view::{bits_before, PayloadView};
+pub use view::{PayloadView, bits_before};

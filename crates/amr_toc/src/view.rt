@@ -1,4 +1,5 @@
-ghost use Rattle.std.specs.Prelude.{◌≡◌, ◌+◌, ◌*◌, ◌/◌, ◌≤◌, ◌<◌, ◌↔◌, IfSome, IsNone, None, Some, false, length, map, sum, take, true};
+ghost use Rattle.std.specs.Prelude.{◌≡◌, ◌+◌, ◌*◌, ◌/◌, ◌≤◌, ◌<◌, ◌↔◌, IfSome, IsNone, None, Some, false, length, map, slice_index, sum, take, true};
+ghost use Rattle.amr_bits.specs.Bits.{filled, octets_for};
 ghost use Rattle.amr_bits.specs.Runs.{run};
 ghost use Rattle.amr_frame.specs.Cells.{IsCell, held};
 ghost use Rattle.amr_frame.specs.Profiles.{IsValid};
@@ -8,8 +9,9 @@ ghost use Rattle.spec_payload.specs.Reading.{entry_start, payload_refusal};
 ghost use Rattle.spec_payload.specs.Values.{IsValue};
 
 use crate::entry::{Entry, Toc};
+use crate::octets::octet_in;
 use amr_bits::BitSlice;
-use amr_frame::{bits_of, Cell, Profile};
+use amr_frame::{Cell, Profile, bits_of};
 
 /// A payload that was read, in place: its octets, its table of contents and where its body begins.
 #[derive(Drop)]
@@ -110,6 +112,16 @@ impl<'a> PayloadView<'a> {
         ensures { result ≡ is_damaged self.now at }
     {
         false
+    }
+
+    /// Octet `octet` of frame `at`, the last being filled: with zero bits where the format isn't
+    /// octet-aligned.
+    pub fn octet(&self, at: usize, octet: usize) -> u8
+        requires frame { at < length (viewed self.now).frames }
+        requires octet { octet < octets_for (length (frame_in (said self.now) at).bits) }
+        ensures filled { (format_of self.now).octet_aligned ≡ false → result ≡ slice_index (filled (frame_in (said self.now) at).bits) octet }
+    {
+        octet_in(self.run_of(at), octet)
     }
 
     /// The bits of frame `at`, lent from the payload; `None` where the format sorts the octets.

@@ -1,5 +1,5 @@
 -- Words whose first names no command.
-use Rattle.std.proofs.Common.{◌≡◌, ℕ, false, List, ◌∷◌, Option, None, option_map, map, bytes_eq, codes, string_bytes, String, sym, subst}
+use Rattle.std.proofs.Common.{◌≡◌, false, List, ◌∷◌, None, option_map, map, bytes_eq, codes, string_bytes, String, sym, subst}
 use Rattle.std.proofs.lemmas.Bool.{cond-false, false_from_ne_true}
 use Rattle.std.proofs.lemmas.Slice.Eq.{bytes_eq-Decides}
 use Rattle.std.specs.declared.alloc.Global.{Global}

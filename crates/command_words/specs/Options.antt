@@ -1,5 +1,5 @@
 -- The options of the command line and the values each may have: this project's own.
-use Rattle.std.specs.Prelude.{ℕ, Bool, ◌&&◌, cond, nat_le, List, length, Option, Some, None, option_map, option_and_then, bytes_eq, codes}
+use Rattle.std.specs.Prelude.{ℕ, ◌≤◌, Bool, ◌&&◌, cond, nat_le, List, length, Option, Some, None, option_map, option_and_then, bytes_eq, codes}
 use Rattle.std.specs.Str.{all_ascii_digits}
 use Rattle.std.specs.Str.Parse.{digits_value}
 use Rattle.amr_frame.specs.declared.codec.Codec.{Codec}
@@ -15,7 +15,11 @@ pub record Row : Type 0 where
 abbrev pub row : List ℕ → ℕ → ℕ → Row
 row option least greatest = record { option = option; least = least; greatest = greatest }
 
--- the table
+-- a number in the range of a row
+abbrev pub IsWithin : Row → ℕ → Type 0
+IsWithin r n = (r.least ≤ n) × (n ≤ r.greatest)
+
+-- the table: the one option whose value is a name, and those whose values are numbers
 abbrev pub codec_option : List ℕ
 codec_option = codes "--codec"
 
@@ -45,11 +49,11 @@ is_number text = nat_le 1 (length text) && nat_le (length text) 13 && all_ascii_
 abbrev pub number_of : List ℕ → Option ℕ
 number_of text = cond (is_number text) (Some (digits_value 10 text)) None
 
--- a number in the range of a row
+-- the number, if it is in the range of a row
 abbrev pub in_range : Row → ℕ → Option ℕ
 in_range r n = cond (nat_le r.least n && nat_le n r.greatest) (Some n) None
 
--- the number that stands behind the option of a row, if it is in range; the default where the option is absent
+-- the number behind the option of a row, if it is in range; the default where the option is absent
 abbrev pub number_or : Row → ℕ → List Pair → Option ℕ
 number_or r default given = elim (value_of r.option given) [
   | None ↦ Some default

@@ -26,7 +26,7 @@ value_of option given = option_map (λ p. p.value) (find (λ p. bytes_eq p.optio
 abbrev pub are_among : List (List ℕ) → List Pair → Bool
 are_among options given = list_all (λ p. list_any (λ option. bytes_eq option p.option) options) given
 
--- no option stands twice
+-- no option stands twice: none is found among the pairs behind its own
 abbrev pub all_differ : List Pair → Bool
 all_differ [] = true
 all_differ (p ∷ rest) = not (is_some (value_of p.option rest)) && all_differ rest

@@ -1,27 +1,28 @@
-ghost use Rattle.std.specs.Prelude.{◌≡◌};
+ghost use Rattle.std.specs.Prelude.{◌≡◌, IfSome};
 ghost use Rattle.command_words.specs.Words.{texts, pairs};
-ghost use Rattle.command_words.specs.Options.{pt, number_given, codec_named};
-ghost use Rattle.command_words.specs.Jobs.{values_of, record_of, command_of};
+ghost use Rattle.command_words.specs.Options.{pt, IsWithin, number_given, codec_named};
+ghost use Rattle.command_words.specs.Jobs.{values_of, record_of, command_of, AreWithin, HasValues};
 
 use crate::number::NumberOption;
 use crate::words::{are_pairs_of, value_of};
 use amr_frame::Codec;
 
-/// What the words ask of `record`. Whether the window has room for the blocks of a payload isn't tested here.
+/// What the words ask of `record`, each in the range of its option. Whether the window has room for the blocks of a
+/// payload isn't tested here.
 #[derive(Clone, Copy, Debug, PartialEq, Eq)]
 pub struct RecordWords {
     pub codec: Codec,
     /// The frames of one block, from 1 to 6.
     pub channels: u8,
-    /// The one payload type that is read, or any.
+    /// The one payload type that is read, from 0 to 127, or any.
     pub pt: Option<u8>,
-    /// The most octets that are read.
+    /// The most octets that are read, from 1 to 1,099,511,627,776.
     pub limit: u64,
-    /// The blocks that wait for others to arrive.
+    /// The window in blocks, from 1 to 4096.
     pub window: u16,
-    /// The most blocks that a packet may lie ahead of the newest block.
+    /// How many blocks ahead a packet may lie, from 1 to 45,000.
     pub reach: u32,
-    /// The most blocks in a payload.
+    /// The most blocks in a payload, from 1 to 64.
     pub max_blocks: u8,
 }
 
@@ -81,11 +82,12 @@ const RECORD_OPTIONS: [&str; 7] = [
     "--max-blocks",
 ];
 
-/// Reads the words of the command line, the first of which is the command. There is no job where there is no word,
-/// the command is unknown, a word has no other to its pair, an option is unknown, not of the command or stands twice,
-/// a value isn't one of the option's, or the codec is missing.
+/// Reads the words of the command line, the first of which is the command. There is no job where there is no word, the
+/// command is unknown, the last option has no value, an option is unknown, not of the command or stands twice, a value
+/// isn't one of its option's, or the codec is missing.
 pub fn read_command(words: &[String]) -> Option<Command>
     ensures job { result ≡ command_of (texts words.now) }
+    ensures within { IfSome result HasValues }
 {
     let (command, options) = words.split_first()?;
     match command.as_str() {
@@ -96,7 +98,8 @@ pub fn read_command(words: &[String]) -> Option<Command>
 
 /// Reads the words behind `record`.
 fn read_record(words: &[String]) -> Option<RecordWords>
-    ensures { result ≡ record_of (texts words.now) }
+    ensures job { result ≡ record_of (texts words.now) }
+    ensures within { IfSome result AreWithin }
 {
     if !are_pairs_of(words, &RECORD_OPTIONS) {
         return None;
@@ -106,7 +109,8 @@ fn read_record(words: &[String]) -> Option<RecordWords>
 
 /// Reads the value of each option of `record`.
 fn read_values(words: &[String]) -> Option<RecordWords>
-    ensures { result ≡ values_of (pairs (texts words.now)) }
+    ensures job { result ≡ values_of (pairs (texts words.now)) }
+    ensures within { IfSome result AreWithin }
 {
     let codec = read_codec(value_of(words, CODEC)?)?;
     let channels = CHANNELS.read_or(words, 1)? as u8;
@@ -138,7 +142,8 @@ fn read_codec(name: &str) -> Option<Codec>
 
 /// The payload type that is asked for, if one is; there is no job where it isn't in range.
 fn read_pt(words: &[String]) -> Option<Option<u8>>
-    ensures { result ≡ number_given pt (pairs (texts words.now)) }
+    ensures value { result ≡ number_given pt (pairs (texts words.now)) }
+    ensures within { IfSome result (λ asked. IfSome asked (IsWithin pt)) }
 {
     match value_of(words, PT.name) {
         Some(text) => Some(Some(PT.read(text)? as u8)),

@@ -1,7 +1,7 @@
-ghost use Rattle.std.specs.Prelude.{◌≡◌, ◌≤◌, IfSome, option_and_then};
+ghost use Rattle.std.specs.Prelude.{◌≡◌, IfSome, option_and_then};
 ghost use Rattle.std.specs.Str.{all_ascii_digits};
 ghost use Rattle.command_words.specs.Words.{texts, pairs};
-ghost use Rattle.command_words.specs.Options.{is_number, number_of, in_range, number_or};
+ghost use Rattle.command_words.specs.Options.{IsWithin, is_number, number_of, in_range, number_or};
 ghost use Rattle.command_words.specs.Rows.{row_of};
 
 use crate::words::value_of;
@@ -18,7 +18,7 @@ impl NumberOption {
     /// The number in range that a text stands for.
     pub fn read(&self, text: &str) -> Option<u64>
         ensures value { result ≡ option_and_then (in_range (row_of self.now)) (number_of text.now) }
-        ensures most { IfSome result (λ number. number ≤ self.now.greatest) }
+        ensures within { IfSome result (IsWithin (row_of self.now)) }
     {
         let number = read_number(text)?;
         if number < self.least || self.greatest < number {
@@ -29,9 +29,9 @@ impl NumberOption {
 
     /// The number in range behind the option, or the default where the option is absent.
     pub fn read_or(&self, words: &[String], default: u64) -> Option<u64>
-        requires { default ≤ self.now.greatest }
+        requires { IsWithin (row_of self.now) default }
         ensures value { result ≡ number_or (row_of self.now) default (pairs (texts words.now)) }
-        ensures most { IfSome result (λ number. number ≤ self.now.greatest) }
+        ensures within { IfSome result (IsWithin (row_of self.now)) }
     {
         match value_of(words, self.name) {
             Some(text) => self.read(text),

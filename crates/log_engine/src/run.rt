@@ -28,6 +28,7 @@ fn go<I: Source, O: Sink, T: Taker>(
     ensures after { After (T.puts taker.old) (T.ends taker.old) (T.stands taker.new) (limit_of reader.old) (I.left input.old) (I.left input.new) (O.got sink.old.output.now) (O.got sink.new.output.now) sink.new.gather.now.waiting (rest reader.new) result }
     ensures stopped { result ≢ Turn.Taken }
     ensures kept { (T.puts taker.new ≡ T.puts taker.old) × (T.ends taker.new ≡ T.ends taker.old) }
+    ensures alike { T.alike taker.old taker.new }
     ensures faults { TurnFaults result (I.faults input.old) (I.faults input.new) (O.faults sink.old.output.now) (O.faults sink.new.output.now) }
     ensures same { (sink.new.output.ghost_name ≡ sink.old.output.ghost_name) × O.same sink.old.output.now sink.new.output.now }
 {
@@ -58,6 +59,7 @@ fn run_all<I: Source, O: Sink, T: Taker>(
 
     ensures ran { Ran (T.puts taker.old) (T.ends taker.old) (T.closed taker.new) (limit_of reader.old) (I.left input.old) (I.left input.new) (O.got sink.old.output.now) (O.got sink.new.output.now) result }
     ensures faults { FaultsOf result (I.faults input.old) (I.faults input.new) (O.faults sink.old.output.now) (O.faults sink.new.output.now) }
+    ensures alike { T.alike taker.old taker.new }
     ensures same_reference { sink.new.output.ghost_name ≡ sink.old.output.ghost_name }
     ensures same { O.same sink.old.output.now sink.new.output.now }
 {
@@ -105,6 +107,7 @@ pub fn drive<I: Source, O: Sink, T: Taker>(
     ensures write_fault { result ≡ LogEnd.WriteFault → BrokeWriting (T.puts taker.old) (T.ends taker.old) (limit_of reader.old) (I.left input.old) (I.left input.new) (O.got sink.old.output.now) (O.got sink.new.output.now) }
     ensures nothing_left { result ≡ LogEnd.Done → IfSome (I.left input.old) (λ _. I.left input.new ≡ Some []) }
 
+    ensures alike { T.alike taker.old taker.new }
     ensures same_reference { sink.new.output.ghost_name ≡ sink.old.output.ghost_name }
     ensures same { O.same sink.old.output.now sink.new.output.now }
 {

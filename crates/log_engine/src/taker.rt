@@ -19,6 +19,9 @@ pub trait Taker {
     /// It took these records.
     ghost stands: { Self → List (List ℕ) → Type 0 };
 
+    /// The second does the same job as the first.
+    ghost alike: { Self → Self → Type 0 };
+
     /// How many records it took.
     ghost taken: { Self → ℕ };
 
@@ -33,6 +36,7 @@ pub trait Taker {
         ensures counted { OnOk result (taken self.new ≡ 0) }
         ensures failed { OnErr result (PutsPart (O.got output.old) (O.got output.new) [] (puts self.old [])) }
         ensures kept { (puts self.new ≡ puts self.old) × (ends self.new ≡ ends self.old) }
+        ensures alike { alike self.old self.new }
         ensures cause { HasCause (O.faults output.old) (O.faults output.new) result }
         ensures same { O.same output.old output.new };
 
@@ -48,6 +52,7 @@ pub trait Taker {
         ensures failed { OnErr result ((hs : List (List ℕ)) → stands self.old hs
             → PutsPart (O.got output.old) (O.got output.new) (puts self.old hs) (puts self.old (hs ++ packet.now ∷ []))) }
         ensures kept { (puts self.new ≡ puts self.old) × (ends self.new ≡ ends self.old) }
+        ensures alike { alike self.old self.new }
         ensures cause { HasCause (O.faults output.old) (O.faults output.new) result }
         ensures same { O.same output.old output.new };
 
@@ -59,6 +64,7 @@ pub trait Taker {
             × Puts (O.got output.old) (O.got output.new) (puts self.old hs) (ends self.old hs)) }
         ensures failed { OnErr result ((hs : List (List ℕ)) → stands self.old hs → PutsPart (O.got output.old) (O.got output.new) (puts self.old hs) (ends self.old hs)) }
         ensures kept { (puts self.new ≡ puts self.old) × (ends self.new ≡ ends self.old) }
+        ensures alike { alike self.old self.new }
         ensures cause { HasCause (O.faults output.old) (O.faults output.new) result }
         ensures same { O.same output.old output.new };
 
@@ -67,4 +73,10 @@ pub trait Taker {
 
     /// What is put out in all begins with what the first records put out.
     ghost ends_grow: { (s : Self) (hs more : List (List ℕ)) → IsPrefix (puts s hs) (ends s (hs ++ more)) };
+
+    /// Each taker does its own job.
+    ghost alike_self: { (s : Self) → alike s s };
+
+    /// What does the same job through two steps does so through both.
+    ghost alike_through: { (a b c : Self) → alike a b → alike b c → alike a c };
 }

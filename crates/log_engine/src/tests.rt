@@ -20,6 +20,8 @@ impl Taker for Echo {
 
     ghost stands = { λ _ _. Unit {0} };
 
+    ghost alike = { λ _ _. Unit {0} };
+
     ghost taken = { λ echo. echo.taken };
 
     ghost closed = { λ _ _. Unit {0} };
@@ -42,6 +44,10 @@ impl Taker for Echo {
     ghost puts_grow = { λ _ hs more. (flat_map (λ (packet : List ℕ). packet) more, flat_map-append (λ (packet : List ℕ). packet) hs more) };
 
     ghost ends_grow = { λ _ hs more. (flat_map (λ (packet : List ℕ). packet) more, flat_map-append (λ (packet : List ℕ). packet) hs more) };
+
+    ghost alike_self = { λ _. tt };
+
+    ghost alike_through = { λ _ _ _ _ _. tt };
 }
 
 #[test]

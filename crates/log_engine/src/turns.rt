@@ -23,6 +23,7 @@ pub(crate) fn begin<O: Sink, T: Taker>(
     ensures done { OnOk result (T.stands taker.new [] × Appends (logical O.got sink.old) (logical O.got sink.new) (T.puts taker.old []) × (sink.new.gather.now.waiting ≡ [])) }
     ensures failed { OnErr result (PutsPart (logical O.got sink.old) (logical O.got sink.new) [] (T.puts taker.old [])) }
     ensures kept { (T.puts taker.new ≡ T.puts taker.old) × (T.ends taker.new ≡ T.ends taker.old) }
+    ensures alike { T.alike taker.old taker.new }
     ensures cause { HasCause (O.faults sink.old.output.now) (O.faults sink.new.output.now) result }
     ensures grows { Grows (O.got sink.old.output.now) (O.got sink.new.output.now) }
     ensures same { (sink.new.output.ghost_name ≡ sink.old.output.ghost_name) × O.same sink.old.output.now sink.new.output.now }
@@ -61,6 +62,7 @@ pub(crate) fn take_next<I: Source, O: Sink, T: Taker>(
     ensures counted { result ≡ Turn.Taken → T.taken taker.new ≡ T.taken taker.old + 1 }
     ensures turned { Turned (T.puts taker.old) (T.stands taker.old) (T.stands taker.new) (I.left input.old) (I.left input.new) reader.old reader.new (O.got sink.old.output.now) (O.got sink.new.output.now) sink.old.gather.now.waiting sink.new.gather.now.waiting result }
     ensures kept { (T.puts taker.new ≡ T.puts taker.old) × (T.ends taker.new ≡ T.ends taker.old) }
+    ensures alike { T.alike taker.old taker.new }
     ensures faults { TurnFaults result (I.faults input.old) (I.faults input.new) (O.faults sink.old.output.now) (O.faults sink.new.output.now) }
     ensures grows { Grows (O.got sink.old.output.now) (O.got sink.new.output.now) }
     ensures same { (sink.new.output.ghost_name ≡ sink.old.output.ghost_name) × O.same sink.old.output.now sink.new.output.now }
@@ -89,6 +91,7 @@ pub(crate) fn close<O: Sink, T: Taker>(
     ensures done { OnOk result ((sink.new.gather.now.waiting ≡ []) × ((hs : List (List ℕ)) → T.stands taker.old hs
         → T.closed taker.new hs × Puts (logical O.got sink.old) (logical O.got sink.new) (T.puts taker.old hs) (T.ends taker.old hs))) }
     ensures failed { OnErr result ((hs : List (List ℕ)) → T.stands taker.old hs → PutsPart (logical O.got sink.old) (logical O.got sink.new) (T.puts taker.old hs) (T.ends taker.old hs)) }
+    ensures alike { T.alike taker.old taker.new }
     ensures cause { HasCause (O.faults sink.old.output.now) (O.faults sink.new.output.now) result }
     ensures grows { Grows (O.got sink.old.output.now) (O.got sink.new.output.now) }
     ensures same { (sink.new.output.ghost_name ≡ sink.old.output.ghost_name) × O.same sink.old.output.now sink.new.output.now }

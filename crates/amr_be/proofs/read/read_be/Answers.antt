@@ -1,4 +1,3 @@
-use Rattle.amr_toc.specs.Told.{IsAccepted, IsRead}
 use Rattle.amr_be.proofs.Rules.{read_is}
 use Rattle.amr_be.proofs.read.read_be.Goals as goal
 

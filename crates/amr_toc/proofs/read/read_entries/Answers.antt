@@ -1,9 +1,9 @@
-use Rattle.std.proofs.Common.{◌≡◌, ◌≤◌, ◌<◌, ◌*◌, ◌+◌, false, true, map, length, [], ◌∷◌, ◌++◌, ap, sym, subst, ◌∙◌, arith}
+use Rattle.std.proofs.Common.{◌≡◌, ◌*◌, ◌+◌, false, true, map, length, [], ◌∷◌, ◌++◌, ap, sym, subst, ◌∙◌, arith}
 use Rattle.std.specs.List.{range_with_len}
 use Rattle.std.proofs.lemmas.List.FromFn.{map-range_with_len_more, length-map-range_with_len}
 use borrow.Author.Count.{below_more}
 use Rattle.amr_bits.specs.Runs.{run}
-use Rattle.amr_toc.specs.Table.{entry_of, ends_at, fault_of, last_of, more_of}
+use Rattle.amr_toc.specs.Table.{entry_of, ends_at, fault_of, more_of}
 use Rattle.amr_toc.specs.Entries.{HasTypes}
 use Rattle.amr_toc.proofs.Sizes.{small_types}
 use Rattle.amr_toc.proofs.Ends.{last_is, fault_ends, zero_ends, goes_on, ends_at_most}

@@ -1,10 +1,8 @@
 use Rattle.std.proofs.Common.{◌≡◌, ◌+◌, ◌%◌, Some, length, ap, sym, subst, ◌∙◌, arith}
-use Rattle.std.specs.Prelude.{◌<◌, None}
+use Rattle.std.specs.Prelude.{◌<◌}
 use Rattle.std.proofs.lemmas.List.FromFn.{length-map-range_with_len}
-use Rattle.amr_frame.specs.First.{when, first}
 use Rattle.amr_bits.specs.Runs.{run}
-use Rattle.amr_toc.specs.Lists.{listed}
-use Rattle.amr_toc.specs.Table.{entry_of, fault_of, last_of, table_refusal}
+use Rattle.amr_toc.specs.Table.{entry_of, fault_of, last_of}
 use Rattle.amr_toc.proofs.Ends.{rest_refused, none_refused}
 use Rattle.spec_payload.specs.declared.refusal.PayloadRefusal.TheVariants as why
 use Rattle.amr_toc.proofs.read.read_toc.Goals as goal

@@ -1,9 +1,5 @@
-use Rattle.std.proofs.Common.{◌≡◌, ◌≤◌, ◌<◌, ◌/◌, ◌*◌, length, get_or, ap, sym, ◌∙◌, arith, subst}
-use Rattle.amr_frame.specs.Frames.{Frame, no_data}
+use Rattle.std.proofs.Common.{◌≡◌, ◌≤◌, ◌/◌, ◌*◌, length, ap, sym, ◌∙◌, subst}
 use Rattle.spec_payload.specs.Values.{Value}
-use Rattle.spec_payload.specs.Reading.{value_at, entries, types, type_at, quality_at}
-use Rattle.amr_toc.specs.declared.entry.Entry.{Entry}
-use Rattle.amr_toc.specs.Lists.{listed, entry_in, toc_at}
 use Rattle.amr_toc.proofs.Shown.{viewed_is, said_count, value_of, blocks_are}
 use Rattle.payload_laws.proofs.Formats.{channels_of}
 use Rattle.amr_toc.proofs.view.PayloadView.blocks.Goals as goal

@@ -1,9 +1,8 @@
-use Rattle.std.proofs.Common.{◌≡◌, ◌≤◌, ◌<◌, ◌/◌, ◌*◌, length, get_or, ap, sym, ◌∙◌, arith, subst}
-use Rattle.amr_frame.specs.Frames.{Frame, no_data}
-use Rattle.spec_payload.specs.Values.{Value}
-use Rattle.spec_payload.specs.Reading.{value_at, entries, types, type_at, quality_at}
+use Rattle.std.proofs.Common.{◌<◌, length, ap, sym, ◌∙◌, subst}
+use Rattle.amr_frame.specs.Frames.{Frame}
+use Rattle.spec_payload.specs.Reading.{entries}
 use Rattle.amr_toc.specs.declared.entry.Entry.{Entry}
-use Rattle.amr_toc.specs.Lists.{listed, entry_in, toc_at}
+use Rattle.amr_toc.specs.Lists.{listed}
 use Rattle.amr_toc.proofs.Shown.{count_is, entry_is, frame_is, type_is, entries_are}
 use Rattle.amr_toc.proofs.view.PayloadView.entry.Goals as goal
 

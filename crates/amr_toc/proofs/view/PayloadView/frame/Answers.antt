@@ -1,12 +1,10 @@
-use Rattle.std.proofs.Common.{◌≡◌, ◌≤◌, ◌<◌, ◌/◌, ◌*◌, length, get_or, ap, sym, ◌∙◌, arith, subst}
-use Rattle.amr_frame.specs.Frames.{Frame, no_data}
+use Rattle.std.proofs.Common.{◌<◌, length, get_or, ap, sym, ◌∙◌, subst}
+use Rattle.amr_frame.specs.Frames.{no_data}
 use Rattle.spec_payload.specs.Values.{Value}
-use Rattle.spec_payload.specs.Reading.{value_at, entries, types, type_at, quality_at}
-use Rattle.amr_toc.specs.declared.entry.Entry.{Entry}
-use Rattle.amr_toc.specs.Lists.{listed, entry_in, toc_at}
+use Rattle.spec_payload.specs.Reading.{value_at}
 use Rattle.std.specs.Prelude.{Some}
 use Rattle.amr_frame.specs.Tables.{bits_in, is_reserved}
-use Rattle.amr_toc.proofs.Shown.{count_is, said_count, known, viewed_is}
+use Rattle.amr_toc.proofs.Shown.{known, viewed_is}
 use Rattle.amr_toc.proofs.view.PayloadView.frame.Goals as goal
 
 pub from_bits-requires-clause-not_reserved : goal.from_bits-requires-clause-not_reserved
@@ -26,4 +24,4 @@ returns-clause-frame c =
     let v = c.args.self.now in
     c.from_bits.ensures.frame
     ∙ ap Some ((λ i. record { ft = c.entry-entry.ensures.ft i; q = c.entry-entry.ensures.quality i; bits = c.run_of.ensures.bits i })
-        ∙ ap (λ (w : Value). get_or w.frames c.args.at no_data) (sym (viewed_is v.profile v.octets.now v.valid v.packed v.accepted)))
+    ∙ ap (λ (w : Value). get_or w.frames c.args.at no_data) (sym (viewed_is v.profile v.octets.now v.valid v.packed v.accepted)))

@@ -1,0 +1,33 @@
+//! Records packet logs of AMR and AMR-WB speech as storage files.
+#![tactic(auto)]
+
+mod job;
+mod run;
+mod status;
+
+use crate::run::run_gateway;
+use crate::status::{Status, number_of};
+use amr_io::{ReadSource, WriteSink};
+use std::process::ExitCode;
+use std::{env, io};
+
+/// The words of the command line, without the program's name.
+fn words_of(rt: &HostRuntime) -> io::Result<Vec<String>> {
+    let mut words = Vec::new(rt.alloc());
+    for word in env::args(rt)?.skip(1) {
+        words.push(word)?;
+    }
+    Ok(words)
+}
+
+fn main(rt: HostRuntime) -> ExitCode {
+    let mut input = ReadSource::new(rt.stdin());
+    let mut output = WriteSink::new(rt.stdout());
+    let mut notes = WriteSink::new(rt.stderr());
+    let status = match words_of(&rt) {
+        Ok(words) => run_gateway(rt.alloc(), &words, &mut input, &mut output, &mut notes),
+        // The only want is of memory for the words: nothing was read then.
+        Err(_) => Status::OutOfMemory,
+    };
+    ExitCode::from(number_of(status))
+}

@@ -1,0 +1,56 @@
+ghost use Rattle.std.specs.Prelude.{◌≡◌};
+ghost use Rattle.amr_cli.specs.Statuses.{number_for, status_for};
+
+use amr_gateway::RunEnd;
+
+/// How the program ends.
+#[derive(Clone, Copy, Debug, PartialEq, Eq)]
+pub enum Status {
+    /// The input was read to its end and all was written.
+    Done,
+    /// The words give no job; nothing was read or put out.
+    Usage,
+    /// The log ended inside a record; the records before it were recorded.
+    InputRefused,
+    /// A read failed.
+    ReadFault,
+    /// A write failed.
+    WriteFault,
+    /// There was no memory; nothing was read or put out.
+    OutOfMemory,
+    /// The input has more octets than the limit; those within it were recorded.
+    LimitReached,
+    /// A record isn't taken yet; what belongs to the records before it was recorded.
+    NotBuilt,
+}
+
+/// The status of a run that ended so.
+pub fn status_of(end: RunEnd) -> Status
+    ensures { result ≡ status_for end }
+{
+    match end {
+        RunEnd::Done => Status::Done,
+        RunEnd::LogCut { .. } => Status::InputRefused,
+        RunEnd::ReadFault => Status::ReadFault,
+        RunEnd::WriteFault => Status::WriteFault,
+        RunEnd::OutOfMemory => Status::OutOfMemory,
+        RunEnd::LimitReached => Status::LimitReached,
+        RunEnd::NotBuilt => Status::NotBuilt,
+    }
+}
+
+/// The number that the program ends with.
+pub fn number_of(status: Status) -> u8
+    ensures { result ≡ number_for status }
+{
+    match status {
+        Status::Done => 0,
+        Status::Usage => 1,
+        Status::InputRefused => 2,
+        Status::ReadFault => 3,
+        Status::WriteFault => 4,
+        Status::OutOfMemory => 5,
+        Status::LimitReached => 6,
+        Status::NotBuilt => 8,
+    }
+}

@@ -1,0 +1,4 @@
+pub mod Ending
+pub mod Read
+pub mod Single
+pub mod Standing

@@ -1,0 +1,5 @@
+pub mod Built
+pub mod Ends
+pub mod Jobs
+pub mod Recorded
+pub mod Standing
