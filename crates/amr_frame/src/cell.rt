@@ -80,3 +80,14 @@ impl Cell {
         self.bits.len() == bits_of(codec, self.ft)
     }
 }
+
+/// The absent cell.
+impl Default for Cell {
+    ghost use Rattle.amr_frame.specs.Cells.{held};
+
+    ghost is_default = { λ cell. held cell ≡ None };
+
+    fn default() -> Cell {
+        Cell::absent()
+    }
+}

@@ -6,6 +6,7 @@ ghost use Rattle.amr_frame.specs.Profiles.{IsValid};
 ghost use Rattle.amr_frame.specs.Tables.{bits_in};
 ghost use Rattle.amr_toc.specs.Lists.{listed, toc_at, types_of};
 ghost use Rattle.spec_payload.specs.Reading.{entry_start, payload_refusal};
+ghost use Rattle.spec_payload.specs.Values.{IsValue};
 
 use crate::entry::{Entry, Toc};
 use crate::octets::octet_in;
@@ -65,6 +66,7 @@ impl<'a> PayloadView<'a> {
     pub fn frames(&self) -> usize
         ensures frames { result ≡ length (viewed self.now).frames }
         ensures said { result ≡ length (said self.now).frames }
+        ensures value { IsValue (format_of self.now) (viewed self.now) }
         ensures some { 1 ≤ result }
         ensures most { result ≤ 384 }
     {

@@ -1,0 +1,4 @@
+pub mod Choice
+pub mod Octets
+pub mod Parts
+pub mod Ranks

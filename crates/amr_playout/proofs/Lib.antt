@@ -1,0 +1,14 @@
+pub mod Accepting
+pub mod CellLists
+pub mod Cells
+pub mod Counts
+pub mod Holding
+pub mod Late
+pub mod Out
+pub mod Payloads
+pub mod Plans
+pub mod Ranges
+pub mod Results
+pub mod Sliding
+pub mod Spans
+pub mod Taking

@@ -1,0 +1,20 @@
+use Rattle.std.proofs.Common.{◌≡◌, ◌-◌, ◌*◌, IsTrue, length}
+use Rattle.std.specs.List.{AllByRecursion}
+use Rattle.amr_frame.specs.Blocks.{GotBlocks}
+use Rattle.amr_frame.specs.Cells.{IsCell}
+use Rattle.amr_playout.specs.Window.{held_of, rows, slid}
+use Rattle.amr_playout.proofs.advance.advance.Given as goal
+
+abbrev pub invariant-loop-at : goal.invariant-loop-at
+invariant-loop-at g l = record {
+  full : length l.ring.items ≡ l.ring.capacity;
+  capacity : l.ring.capacity ≡ l.initial.ring.capacity;
+  valid : AllByRecursion (IsCell l.codec) l.ring.items;
+  items : held_of l.ring.items ≡ slid (held_of l.initial.ring.items) (l.at * l.channels);
+  got : GotBlocks g.B.BlockSink.whole l.initial.out (rows l.channels (held_of l.initial.ring.items) l.skip (l.at - l.skip)) l.out;
+  ready : IsTrue (g.B.BlockSink.ready l.out);
+  codec : g.B.BlockSink.codec l.out ≡ l.codec;
+  channels : g.B.BlockSink.channels l.out ≡ l.channels;
+  faults : g.B.BlockSink.faults l.out ≡ g.B.BlockSink.faults l.initial.out;
+  same : g.B.BlockSink.same l.initial.out l.out;
+}

@@ -1,0 +1,10 @@
+pub mod Copied
+pub mod Gains
+pub mod Heard
+pub mod Plans
+pub mod Receiver
+pub mod Refusals
+pub mod Ring
+pub mod Shown
+pub mod Standing
+pub mod Window

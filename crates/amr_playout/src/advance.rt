@@ -1,0 +1,48 @@
+// Sliding the ring, and putting out what it pushes out.
+ghost use Rattle.std.specs.List.{AllByRecursion};
+ghost use Rattle.std.specs.Prelude.{◌≡◌, ◌*◌, ◌-◌, ◌<◌, ◌≤◌, IsTrue, OnErr, OnOk, is_ok, length};
+ghost use Rattle.amr_frame.specs.Blocks.{GotBlocks, GotPrefix};
+ghost use Rattle.amr_frame.specs.Cells.{IsCell};
+ghost use Rattle.amr_io.specs.Fault.{HasCause};
+ghost use Rattle.amr_playout.specs.Window.{held_of, rows, slid};
+
+use crate::ring::push_block;
+use amr_frame::{BlockSink, Cell, Codec};
+use amr_io::Failed;
+use circular_buffer::HeapCircularBuffer;
+
+/// Slides the ring by `count` blocks, and puts out those that it pushes out but the first `skip`.
+pub fn advance<B: BlockSink>(
+    ring: &mut HeapCircularBuffer<Cell>,
+    codec: Codec,
+    channels: usize,
+    skip: u64,
+    count: u64,
+    out: &mut B,
+) -> Result<(), Failed>
+    requires full { length ring.old.items ≡ ring.old.capacity }
+    requires valid { AllByRecursion (IsCell codec) ring.old.items }
+    requires few { channels ≤ 6 }
+    requires room { channels ≤ ring.old.capacity }
+    requires ready { IsTrue (B.ready out.old) }
+    requires sink { (B.codec out.old ≡ codec) × (B.channels out.old ≡ channels) }
+
+    ensures items { OnOk result (held_of ring.new.items ≡ slid (held_of ring.old.items) (count * channels)) }
+    ensures out { OnOk result (GotBlocks B.whole out.old (rows channels (held_of ring.old.items) skip (count - skip)) out.new) }
+    ensures part { OnErr result (GotPrefix B.whole B.part out.old (rows channels (held_of ring.old.items) skip (count - skip)) out.new) }
+    ensures cause { HasCause (B.faults out.old) (B.faults out.new) result }
+    ensures same { B.same out.old out.new }
+    ensures ready { B.ready out.new ≡ is_ok result }
+    ensures kept { OnOk result ((B.codec out.new ≡ codec) × (B.channels out.new ≡ channels)) }
+    ensures valid { AllByRecursion (IsCell codec) ring.new.items }
+    ensures full { length ring.new.items ≡ ring.new.capacity }
+    ensures capacity { ring.new.capacity ≡ ring.old.capacity }
+{
+    for at in 0..count {
+        let block = push_block(ring, codec, channels);
+        if skip <= at {
+            out.put_block(&block)?;
+        }
+    }
+    Ok(())
+}

@@ -1,0 +1,34 @@
+/// What an accepted packet gave.
+#[derive(Clone, Copy, Debug, PartialEq, Eq)]
+pub struct Taken {
+    /// Its blocks that weren't in time.
+    pub late: u32,
+    /// Its frames in time whose place and channel had a copy already.
+    pub copies: u32,
+    /// The blocks that were put out.
+    pub released: u64,
+}
+
+/// Why a packet wasn't taken, in the order in which the rules are tested.
+#[derive(Clone, Copy, Debug, PartialEq, Eq)]
+pub enum Offered {
+    /// S1: another source (SSRC) than the session's.
+    OtherSource { kept: u32, got: u32 },
+    /// S2: the timestamp is no multiple of a frame time from the session's first, but `delta` ticks from the horizon's.
+    OffGrid { delta: i64 },
+    /// S3: the packet's last block stands further past the horizon than the reach.
+    FarAhead { horizon: i64, last: i64 },
+    /// S4: the sink failed. The receiver is spent.
+    BlockFault,
+}
+
+/// What became of all packets so far.
+#[derive(Clone, Copy, Debug, PartialEq, Eq)]
+pub struct Kept {
+    /// The blocks that weren't in time.
+    pub late: u64,
+    /// The frames in time whose place and channel had a copy already.
+    pub copies: u64,
+    /// The blocks put out.
+    pub blocks: u64,
+}

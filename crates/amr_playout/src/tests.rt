@@ -1,0 +1,130 @@
+ghost use Rattle.std.specs.Prelude.{◌≡◌, ◌≤◌, ◌+◌, ◌^◌, ◌<◌, [], ◌∷◌, None, Some, IsTrue, false, true};
+ghost use Rattle.amr_frame.specs.Cells.{IsCell, frame_of};
+ghost use Rattle.amr_frame.specs.Tables.{bits_in, is_reserved};
+ghost use Rattle.amr_frame.specs.declared.codec.Codec.TheVariants.{Amr};
+
+use crate::{Frames, Head, Plan, Receiver};
+use amr_bits::BitSlice;
+use amr_frame::{Cell, Codec, MemoryBlocks, Profile, bits_of};
+use std::marker::Model;
+use std::test::Fail;
+
+// A payload of one frame.
+#[derive(Drop)]
+struct Single {
+    cell: Cell,
+}
+
+impl Model for Single {
+    ghost use Rattle.std.specs.Prelude.{IsTrue};
+    ghost use Rattle.amr_frame.specs.Cells.{IsCell, frame_of};
+    ghost use Rattle.amr_frame.specs.Frames.{Frame};
+    ghost use Rattle.amr_frame.specs.declared.codec.Codec.TheVariants.{Amr};
+
+    ghost Value = { Frame };
+
+    ghost view = { λ s. frame_of s.cell };
+
+    ghost invariant = { λ s. (IsCell Amr s.cell) × IsTrue s.cell.present };
+}
+
+impl Frames for Single {
+    ghost profile = { λ _. record {
+      codec = Amr;
+      channels = 1;
+      octet_aligned = false;
+      crc = false;
+      sorting = false;
+      interleaving = None;
+      max_blocks = 3;
+    } };
+
+    ghost value = { λ s. record { cmr = 15; stride = 1; index = 0; frames = s ∷ [] } };
+
+    fn frames(&self) -> usize {
+        // Reading the cell tells the proof that it is one of the codec.
+        let _present = self.cell.present;
+        1
+    }
+
+    fn stride(&self) -> u8 {
+        1
+    }
+
+    fn frame(&self, _at: usize) -> Cell {
+        self.cell
+    }
+}
+
+// A frame of this type whose bits are all 0.
+fn zeros(ft: u8) -> Single
+    requires type_exists { ft ≤ 15 }
+    requires not_reserved { is_reserved Amr ft ≡ false }
+{
+    let octets = [0u8; 60];
+    match BitSlice::of(&octets, 0, bits_of(Codec::Amr, ft)) {
+        Some(bits) => Single {
+            cell: Cell::from_bits(Codec::Amr, ft, true, bits),
+        },
+        None => Single {
+            cell: Cell::no_data(),
+        },
+    }
+}
+
+fn head(sequence: u16, timestamp: u32) -> Head
+    ensures { result ≡ record { ssrc = 1; sequence = sequence; timestamp = timestamp } }
+{
+    Head {
+        ssrc: 1,
+        sequence,
+        timestamp,
+    }
+}
+
+#[test]
+fn the_first_to_arrive_need_not_be_the_earliest(rt: HostRuntime) -> Result<(), Fail> {
+    let plan = Plan {
+        profile: Profile {
+            codec: Codec::Amr,
+            channels: 1,
+            octet_aligned: false,
+            crc: false,
+            sorting: false,
+            interleaving: None,
+            max_blocks: 3,
+        },
+        window: 3,
+        reach: 100,
+    };
+    assert!(rt; plan.check().is_ok());
+    let mut receiver = Receiver::create(rt.alloc(), plan)?;
+    let mut out = MemoryBlocks::create(rt.alloc(), Codec::Amr, 1, 8)?;
+    let Ok(first) = receiver.take(&head(2, 320), &zeros(2), &mut out) else {
+        panic!(rt; "the first packet is taken")
+    };
+    assert_eq!(rt; (first.late, first.copies, first.released), (0, 0, 0));
+    assert_eq!(rt; receiver.room(), 3);
+    let Ok(second) = receiver.take(&head(0, 0), &zeros(7), &mut out) else {
+        panic!(rt; "an earlier packet is taken")
+    };
+    assert_eq!(rt; (second.late, second.copies, second.released), (0, 0, 0));
+    assert_eq!(rt; receiver.room(), 3);
+    let Ok(third) = receiver.take(&head(1, 160), &zeros(4), &mut out) else {
+        panic!(rt; "a packet between is taken")
+    };
+    assert_eq!(rt; (third.late, third.copies, third.released), (0, 0, 0));
+    assert_eq!(rt; receiver.room(), 3);
+    assert_eq!(rt; receiver.horizon(), Some(0));
+    let Ok(count) = receiver.finish(&mut out) else {
+        panic!(rt; "the sink has room")
+    };
+    assert_eq!(rt; count, 3);
+    assert_eq!(rt; receiver.counts().blocks, 3);
+    let cells = out.blocks();
+    assert_eq!(rt; cells.len(), 3);
+    assert_eq!(rt; cells[0], zeros(7).cell);
+    assert_eq!(rt; cells[1], zeros(4).cell);
+    assert_eq!(rt; cells[2], zeros(2).cell);
+    Ok(())
+}
