@@ -22,14 +22,21 @@ fn words_of(rt: &HostRuntime) -> io::Result<Vec<String>> {
     Ok(words)
 }
 
+/// The status where the words can't be had: there was no memory for them, or one isn't UTF-8 and so no word of a job.
+fn status_without_words(error: &io::Error) -> Status {
+    match error.kind() {
+        io::ErrorKind::OutOfMemory => Status::OutOfMemory,
+        _ => Status::Usage,
+    }
+}
+
 fn main(rt: HostRuntime) -> ExitCode {
     let mut input = ReadSource::new(rt.stdin());
     let mut output = WriteSink::new(rt.stdout());
     let mut notes = WriteSink::new(rt.stderr());
     let status = match words_of(&rt) {
         Ok(words) => run_gateway(rt.alloc(), &words, &mut input, &mut output, &mut notes),
-        // The only want is of memory for the words: nothing was read then.
-        Err(_) => Status::OutOfMemory,
+        Err(error) => status_without_words(&error),
     };
     ExitCode::from(number_of(status))
 }

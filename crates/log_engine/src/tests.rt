@@ -70,7 +70,7 @@ fn a_run_ends_as_its_log_and_its_faults_say(rt: HostRuntime) -> Result<(), Fail>
     for (len, limit, most, reads, writes, end, wanted) in rows {
         let mut source = MemorySource::create(rt.alloc(), &log[..len.min(9)], most.max(1), reads)?;
         let mut output = MemorySink::create(rt.alloc(), 9, 9, writes)?;
-        let mut reader = LogReader::create(rt.alloc(), limit.max(1))?;
+        let mut reader = LogReader::create(rt.alloc(), limit.clamp(1, 99))?;
         let mut gather = Gather::create(rt.alloc(), 4)?;
         let mut sink = GatherSink::new(&mut output, &mut gather);
         let result = drive(&mut Echo { taken: 0 }, &mut reader, &mut source, &mut sink);
