@@ -5,8 +5,10 @@ mod entry;
 mod octets;
 mod read;
 mod view;
+mod write;
 
 pub use entry::{Entry, Toc};
 pub use read::{entries_within, read_toc};
 pub use spec_payload::PayloadRefusal;
 pub use view::{PayloadView, bits_before};
+pub use write::{put_entry, write_toc};
