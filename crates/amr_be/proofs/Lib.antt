@@ -1,1 +1,4 @@
+pub mod Canonical
+pub mod Counts
+pub mod Parts
 pub mod Rules

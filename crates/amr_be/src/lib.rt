@@ -1,8 +1,10 @@
-//! Bandwidth-efficient payloads of AMR and AMR-WB frames (RFC 4867, 4.3), read in place.
+//! Bandwidth-efficient payloads of AMR and AMR-WB frames (RFC 4867, 4.3), read in place and written.
 #![tactic(auto)]
 
 mod read;
 #[cfg(test)]
 mod tests;
+mod write;
 
 pub use read::read_be;
+pub use write::size_be;
