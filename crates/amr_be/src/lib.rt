@@ -7,4 +7,4 @@ mod tests;
 mod write;
 
 pub use read::read_be;
-pub use write::size_be;
+pub use write::{size_be, write_be};
