@@ -5,6 +5,8 @@ mod entry;
 mod octets;
 mod payload;
 mod read;
+#[cfg(test)]
+mod tests;
 mod view;
 mod write;
 
