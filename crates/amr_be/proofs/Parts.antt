@@ -1,5 +1,5 @@
 -- The table and the body of cells, cell by cell.
-use Rattle.std.proofs.Common.{◌≡◌, ℕ, ◌+◌, ◌<◌, Bool, true, false, ltb, List, [], ◌∷◌, ◌++◌, length, drop, get_or, sym, refl, arith, ◌∙◌}
+use Rattle.std.proofs.Common.{◌≡◌, ℕ, ◌+◌, ◌<◌, Bool, true, false, ltb, List, [], ◌∷◌, ◌++◌, length, drop, get_or, sym, ap, refl, arith, ◌∙◌}
 use Rattle.std.proofs.lemmas.Bool.{ltb-true, ltb-false}
 use Rattle.std.proofs.lemmas.List.{append-nil, map-append, at_drop_more, length-drop}
 use Rattle.amr_be.specs.Parts.{table_part, body_part}
@@ -12,9 +12,11 @@ use Rattle.amr_toc.specs.declared.entry.Entry.{Entry}
 use Rattle.amr_toc.specs.Entries.{entry_text}
 use Rattle.spec_payload.specs.Grammar.{entry, table}
 
--- the bits of the cells from k on
-pub bodies_from : (cells : List Cell) (k : ℕ) (d : Cell) → k < length cells → body_part (frames_of (drop k cells)) ≡ kept (get_or cells k d).bits ++ body_part (frames_of (drop (k + 1) cells))
-bodies_from cells k d h = at_drop_more (λ (xs : List Cell). body_part (frames_of xs)) cells k d h
+-- the bits of the cells from one on
+pub bodies_from : (cells : List Cell) (k : ℕ) (cell : Cell) → cell ≡ get_or cells k cell → k < length cells → body_part (frames_of (drop k cells)) ≡ kept cell.bits ++ body_part (frames_of (drop (k + 1) cells))
+bodies_from cells k cell is h =
+    at_drop_more (λ (xs : List Cell). body_part (frames_of xs)) cells k cell h
+    ∙ ap (λ (x : Cell). kept x.bits ++ body_part (frames_of (drop (k + 1) cells))) (sym is)
 
 -- the entry of a cell
 abbrev pub heading : Cell → Entry
@@ -27,9 +29,10 @@ front_entry cell [] false some none = sym (append-nil (entry_text 6 (heading cel
 front_entry cell (d ∷ rest) true some none = map-append settled (entry 0 (frame_of cell) true) (table 0 (frames_of (d ∷ rest)))
 front_entry cell (d ∷ rest) false some none = absurd (let h = none refl in omega arith)
 
--- the entries of the cells from k on
-pub entries_from : (cells : List Cell) (k : ℕ) (d : Cell) → k < length cells → table_part (frames_of (drop k cells)) ≡ entry_text 6 (heading (get_or cells k d)) (ltb (k + 1) (length cells)) ++ table_part (frames_of (drop (k + 1) cells))
-entries_from cells k d h =
+-- the entries of the cells from one on
+pub entries_from : (cells : List Cell) (k : ℕ) (cell : Cell) → cell ≡ get_or cells k cell → k < length cells → table_part (frames_of (drop k cells)) ≡ entry_text 6 (heading cell) (ltb (k + 1) (length cells)) ++ table_part (frames_of (drop (k + 1) cells))
+entries_from cells k cell is h =
     let l = length-drop (k + 1) cells in
-    at_drop_more (λ (xs : List Cell). table_part (frames_of xs)) cells k d h
-    ∙ front_entry (get_or cells k d) (drop (k + 1) cells) (ltb (k + 1) (length cells)) (λ t. let m = ltb-true (k + 1) (length cells) t in omega arith) (λ t. let m = ltb-false (k + 1) (length cells) t in omega arith)
+    at_drop_more (λ (xs : List Cell). table_part (frames_of xs)) cells k cell h
+    ∙ ap (λ (x : Cell). table_part (frames_of (x ∷ drop (k + 1) cells))) (sym is)
+    ∙ front_entry cell (drop (k + 1) cells) (ltb (k + 1) (length cells)) (λ t. let m = ltb-true (k + 1) (length cells) t in omega arith) (λ t. let m = ltb-false (k + 1) (length cells) t in omega arith)

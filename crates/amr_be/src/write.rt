@@ -1,4 +1,4 @@
-ghost use Rattle.std.specs.Prelude.{◌≡◌, ◌+◌, ◌*◌, ◌^◌, ◌≤◌, ◌<◌, ◌++◌, drop, false, length, take};
+ghost use Rattle.std.specs.Prelude.{◌≡◌, ◌+◌, ◌*◌, ◌^◌, ◌≤◌, ◌<◌, ◌++◌, false, length, take};
 ghost use Rattle.amr_be.specs.Parts.{HaveTypes, body_part, table_part};
 ghost use Rattle.amr_bits.specs.Bits.{filled, octets_for};
 ghost use Rattle.amr_bits.specs.Written.{front};
@@ -32,8 +32,8 @@ fn body_bits(cells: &[Cell]) -> usize
     ensures bits { result ≡ length (body_part (frames_of cells.now)) }
 {
     let mut bits = 0;
-    for k in 0..cells.len() {
-        bits += cells[k].bits.len();
+    for cell in cells {
+        bits += cell.bits.len();
     }
     bits
 }
@@ -82,7 +82,7 @@ fn put_bodies(cells: &[Cell], at: &mut BitWriter, out: &mut [u8])
     ensures bits { front out.new at.new.written ≡ front out.old at.old.written ++ body_part (frames_of cells.now) }
     ensures filled { take (octets_for at.new.written) out.new ≡ filled (front out.new at.new.written) }
 {
-    for k in 0..cells.len() {
-        at.put_bits(out, cells[k].bits.as_bits());
+    for cell in cells {
+        at.put_bits(out, cell.bits.as_bits());
     }
 }

@@ -1,4 +1,4 @@
-ghost use Rattle.std.specs.Prelude.{◌≡◌, ◌*◌, ◌≤◌, IfSome, IsTrue, false, length};
+ghost use Rattle.std.specs.Prelude.{◌≡◌, ◌*◌, ◌≤◌, IsTrue, false, length};
 ghost use Rattle.std.specs.List.{AllByRecursion};
 ghost use Rattle.amr_frame.specs.Blocks.{frames_of};
 ghost use Rattle.amr_frame.specs.Cells.{frame_of};

@@ -1,4 +1,4 @@
-ghost use Rattle.std.specs.Prelude.{◌≡◌, ℕ, ◌+◌, ◌*◌, ◌^◌, ◌≤◌, ◌<◌, ◌++◌, ◌⊎◌, drop, length, take};
+ghost use Rattle.std.specs.Prelude.{◌≡◌, ◌+◌, ◌*◌, ◌^◌, ◌≤◌, ◌<◌, ◌++◌, ◌⊎◌, drop, length, take};
 ghost use Rattle.amr_bits.specs.Bits.{filled, octets_for};
 ghost use Rattle.amr_bits.specs.Written.{front};
 ghost use Rattle.amr_toc.specs.Entries.{HasTypes, entry_text, table_text};

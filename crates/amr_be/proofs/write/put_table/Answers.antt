@@ -1,10 +1,8 @@
-use Rattle.std.proofs.Common.{◌+◌, ◌++◌, ltb, length, drop, sym, subst, ap, ◌∙◌, arith}
+use Rattle.std.proofs.Common.{◌+◌, drop, subst, arith}
 use Rattle.std.proofs.lemmas.List.{at_drop_all}
 use Rattle.amr_be.specs.Parts.{table_part}
-use Rattle.amr_be.proofs.Parts.{entries_from, heading}
+use Rattle.amr_be.proofs.Parts.{entries_from}
 use Rattle.amr_frame.specs.Blocks.{frames_of}
-use Rattle.amr_frame.specs.declared.cell.Cell.{Cell}
-use Rattle.amr_toc.specs.Entries.{entry_text}
 use Rattle.amr_toc.proofs.Writing.{Between, at_first, next_step, at_last}
 use Rattle.amr_be.proofs.write.put_table.Goals as goal
 
@@ -33,7 +31,7 @@ loop-k-preserved c =
     let written = e.written in
     let all = table_part (frames_of cells) in
     let rest = table_part (frames_of (drop (k + 1) cells)) in
-    let here = entries_from cells k c.index-cells-k.result (omega arith) ∙ ap (λ (x : Cell). entry_text 6 (heading x) (ltb (k + 1) (length cells)) ++ rest) (sym c.index-cells-k.is) in
+    let here = entries_from cells k c.index-cells-k.result c.index-cells-k.is (omega arith) in
     let now = c.loop-k.out in (
       omega arith,
       next_step c.args.out.now c.args.at.now.written all now c.loop-k.at.written _ rest k c.put_entry.new.out c.put_entry.new.at.written
