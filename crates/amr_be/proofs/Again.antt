@@ -1,5 +1,6 @@
 -- Payloads that are written and read, and read and written again.
 use Rattle.std.proofs.Common.{◌≡◌, ℕ, suc, ◌+◌, ◌*◌, Bool, true, false, cond, List, [], ◌∷◌, ◌++◌, length, map, replicate, sym, refl, ap, ◌∙◌, arith, Some, None}
+use Rattle.std.specs.Prelude.{◌&&◌}
 use Rattle.std.proofs.lemmas.List.{length-map}
 use Rattle.amr_bits.specs.Bits.{bits_of, bits_at, filled}
 use Rattle.amr_bits.specs.Layout.{Mark, fits, settled, same_bit}
@@ -9,7 +10,9 @@ use Rattle.amr_be.proofs.Canonical.{settled_layout, text_is}
 use Rattle.amr_frame.specs.declared.profile.Profile.{Profile}
 use Rattle.amr_frame.specs.Profiles.{IsValid}
 use Rattle.amr_toc.specs.Cleared.{cleared}
+use Rattle.amr_toc.specs.declared.view.PayloadView.{PayloadView}
 use Rattle.amr_toc.specs.Told.{IsRead, IsRefused}
+use Rattle.amr_toc.specs.Viewed.{format_of, is_damaged}
 use Rattle.payload_laws.proofs.EachFormat.{not_refused_of}
 use Rattle.payload_laws.proofs.Entries.{length-bits_of}
 use Rattle.payload_laws.proofs.Formats.{plain_of}
@@ -86,6 +89,13 @@ in_grammar p octets v valid packed h = (read_exactly p v octets valid packed).0 
 pub same_value : (p : Profile) (v w : Value) → IsValid p → p.octet_aligned ≡ false → IsValue p v → IsRead p (text p v) w → w ≡ v
 same_value p v w valid packed h r =
     one_value p w v [] [] (text p v) valid (in_grammar p (text p v) w valid packed r) (is_payload p v valid packed h)
+
+-- without CRCs no frame is damaged
+none_of : (a b : Bool) → a ≡ false → (a && b) ≡ false
+none_of a b e = rw e refl
+
+pub undamaged : (view : PayloadView) (k : ℕ) → IsValid (format_of view) → (format_of view).octet_aligned ≡ false → is_damaged view k ≡ false
+undamaged view k valid packed = none_of view.profile.crc _ (plain_of view.profile valid packed).crc
 
 -- what is read is a value
 pub is_value : (p : Profile) (v : Value) (octets : List ℕ) → IsValid p → p.octet_aligned ≡ false → IsRead p octets v → IsValue p v
