@@ -1,5 +1,12 @@
+pub mod Accepted
+pub mod CheckPlaces
 pub mod Ends
 pub mod InPayload
 pub mod Filling
+pub mod Marked
+pub mod Orders
 pub mod Shown
 pub mod Sizes
+pub mod Standing
+pub mod Telling
+pub mod Valued
