@@ -116,6 +116,7 @@ impl<'a> PayloadView<'a> {
         ensures small { result.ft ≤ 15 }
         ensures ft { result.ft ≡ (frame_in (said self.now) at).ft }
         ensures quality { result.q ≡ (frame_in (said self.now) at).q }
+        ensures size { length (frame_in (said self.now) at).bits ≡ bits_in (format_of self.now).codec result.ft }
     {
         self.toc.entry(at)
     }

@@ -1,8 +1,9 @@
 use Rattle.std.proofs.Common.{ap, sym, ◌∙◌}
 use Rattle.amr_frame.specs.Frames.{Frame}
+use Rattle.amr_frame.specs.Tables.{bits_in}
 use Rattle.amr_toc.specs.declared.entry.Entry.{Entry}
 use Rattle.amr_toc.specs.Lists.{listed}
-use Rattle.amr_toc.proofs.Shown.{in_table, in_entries, entry_is, frame_is, type_is}
+use Rattle.amr_toc.proofs.Shown.{in_table, in_entries, entry_is, frame_is, ft_is, length_bits, type_is}
 use Rattle.amr_toc.proofs.view.PayloadView.entry.Goals as goal
 
 pub entry-requires : goal.entry-requires
@@ -27,3 +28,10 @@ returns-clause-quality c =
     let h = in_table p octets (listed v.toc) at v.table c.requires in
     let k = in_entries p octets (listed v.toc) at v.table c.requires in
     ap (λ (x : Entry). x.q) (c.entry.ensures.entry ∙ entry_is p octets (listed v.toc) at c.entry.result v.table h) ∙ sym (ap (λ (f : Frame). f.q) (frame_is p octets at k))
+
+pub returns-clause-size : goal.returns-clause-size
+returns-clause-size c =
+    let v = c.args.self.now in
+    let h = in_table v.profile v.octets.now (listed v.toc) c.args.at v.table c.requires in
+    let k = in_entries v.profile v.octets.now (listed v.toc) c.args.at v.table c.requires in
+    length_bits v.profile v.octets.now c.args.at k ∙ ap (bits_in v.profile.codec) (sym (ft_is v.profile v.octets.now (listed v.toc) c.args.at c.entry.result v.table h c.entry.ensures.entry))
