@@ -3,6 +3,7 @@ use Rattle.std.proofs.Common.{◌≡◌, ℕ, ◌+◌, ◌-◌, ◌*◌, ◌/◌
 use Rattle.std.specs.Prelude.{sum, is_some}
 use Rattle.std.specs.List.{position_or_len}
 use Rattle.std.proofs.lemmas.List.{length-map, get_or-map}
+use Rattle.std.proofs.lemmas.List.FromFn.{get_or-map-range_with_len}
 use Rattle.std.proofs.lemmas.List.Sums.{sum-map, sum_by_more_le}
 use Rattle.amr_bits.specs.Bits.{bit_at, bits_at, octets_for}
 use Rattle.amr_frame.specs.declared.codec.Codec.{Codec}
@@ -22,7 +23,7 @@ use Rattle.amr_toc.proofs.Marked.{either}
 use Rattle.amr_toc.proofs.Orders.{plain_stands}
 use Rattle.amr_toc.specs.declared.entry.Entry.{Entry}
 use Rattle.amr_toc.specs.Lists.{types_of, toc_at}
-use Rattle.amr_toc.proofs.Shown.{length_types, types_are, entries_are, frame_is, size}
+use Rattle.amr_toc.proofs.Shown.{length_types, types_are, entries_are, frame_is, length_bits, size}
 
 -- the first bit of frame k, where the frames aren't sorted
 abbrev pub first_bit : Profile → List ℕ → ℕ → ℕ
@@ -182,3 +183,24 @@ count_at p octets es counts k e is h =
 
 pub is_octet : (p : Profile) (octets : List ℕ) (es : List Entry) (counts : List ℕ) (k o : ℕ) → es ≡ toc_at p octets → counts ≡ sizes_in p (types_of es) → k < length es → o < octets_in p.codec (get_or (types p octets) k 0) → IsOctet counts k o
 is_octet p octets es counts k o e is h below = let c = count_at p octets es counts k e is h in (c.0, subst (λ n. o < n) (sym c.1) below)
+
+-- the bits of octet o of frame k of an octet-aligned payload
+pub standing_bit : (p : Profile) (octets : List ℕ) (k o i value : ℕ) → p.octet_aligned ≡ true → k < entries p octets → i < 8 → 8 * o + i < length (get_or (value_at p octets).frames k no_data).bits
+    → value ≡ get_or octets (octet_place p (types p octets) k o) 0
+    → nat_eq (value / 2 ^ (7 - i) % 2) 1 ≡ get_or (get_or (value_at p octets).frames k no_data).bits (8 * o + i) false
+standing_bit p octets k o i value aligned h few inside is =
+    let fts = types p octets in
+    let j = 8 * o + i in
+    let l = length_bits p octets k h in
+    let at = 8 * octet_place p fts k (j / 8) + j % 8 in
+    let whole : j / 8 ≡ o = omega arith in
+    let rest : j % 8 ≡ i = omega arith in
+    let place : octet_place p fts k (j / 8) ≡ octet_place p fts k o = ap (octet_place p fts k) whole in
+    let there : octet_place p fts k o ≡ at / 8 = omega arith in
+    let inner : i ≡ at % 8 = omega arith in
+    ap (λ (x : ℕ). nat_eq (x / 2 ^ (7 - i) % 2) 1) is
+    ∙ ap (λ (x : ℕ). nat_eq (get_or octets x 0 / 2 ^ (7 - i) % 2) 1) there
+    ∙ ap (λ (m : ℕ). nat_eq (get_or octets (at / 8) 0 / 2 ^ (7 - m) % 2) 1) inner
+    ∙ sym (ap (λ b. cond b (bit_at octets at) (bit_at octets (entry_start p (length fts) + sum (map (bits_in p.codec) (take k fts)) + j))) aligned)
+    ∙ sym (get_or-map-range_with_len (frame_bit p octets fts k) 0 (size p octets k) j j false (omega arith) (omega arith))
+    ∙ sym (ap (λ (f : Frame). get_or f.bits j false) (frame_is p octets k h))

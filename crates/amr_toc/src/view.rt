@@ -1,10 +1,10 @@
-ghost use Rattle.std.specs.Prelude.{◌≡◌, ◌≢◌, ◌+◌, ◌*◌, ◌/◌, ◌≤◌, ◌<◌, ◌↔◌, ℕ, IfSome, IsNone, None, Some, false, length, map, slice_index, sum, take, true};
-ghost use Rattle.amr_bits.specs.Bits.{bits_at, filled, number_at, octets_for};
-ghost use Rattle.amr_guard.specs.Sorting.{IsOctet};
+ghost use Rattle.std.specs.Prelude.{◌≡◌, ◌+◌, ◌-◌, ◌*◌, ◌/◌, ◌%◌, ◌^◌, ◌≤◌, ◌<◌, ◌↔◌, ℕ, IfSome, IsNone, None, Some, false, length, nat_eq, slice_index, slice_index_or, true};
+ghost use Rattle.amr_bits.specs.Bits.{bits_at, filled, octets_for};
 ghost use Rattle.amr_bits.specs.Runs.{run};
 ghost use Rattle.amr_frame.specs.Cells.{IsCell, held};
 ghost use Rattle.amr_frame.specs.Profiles.{IsValid};
 ghost use Rattle.amr_frame.specs.Tables.{bits_in};
+ghost use Rattle.amr_guard.specs.Sorting.{IsOctet};
 ghost use Rattle.amr_toc.specs.Lists.{listed, toc_at, types_of};
 ghost use Rattle.amr_toc.specs.Places.{bits_to, body_bit, sizes_in};
 ghost use Rattle.spec_payload.specs.Reading.{checks_at, payload_refusal};
@@ -31,7 +31,7 @@ pub struct PayloadView<'a> {
     ghost accepted: { payload_refusal profile octets.now ≡ None },
     ghost table: { listed toc ≡ toc_at profile octets.now },
     ghost behind: { body ≡ body_bit profile (types_of (listed toc)) },
-    ghost short: { body ≤ 6200 },
+    ghost short: { body ≤ 6160 },
 }
 
 impl<'a> PayloadView<'a> {
@@ -142,6 +142,7 @@ impl<'a> PayloadView<'a> {
         requires octet { octet < octets_for (length (frame_in (said self.now) at).bits) }
         ensures filled { (format_of self.now).octet_aligned ≡ false → result ≡ slice_index (filled (frame_in (said self.now) at).bits) octet }
         ensures standing { (format_of self.now).octet_aligned ≡ true → result ≡ standing self.now at octet }
+        ensures bits { (format_of self.now).octet_aligned ≡ true → (i : ℕ) → i < 8 → 8 * octet + i < length (frame_in (said self.now) at).bits → nat_eq (result / 2 ^ (7 - i) % 2) 1 ≡ slice_index_or (frame_in (said self.now) at).bits (8 * octet + i) false }
     {
         if !self.profile.octet_aligned {
             return octet_in(self.run_of(at), octet);
@@ -275,7 +276,7 @@ impl<'a> PayloadView<'a> {
 /// The first bit behind the table and the CRCs.
 fn body_of(profile: &Profile, toc: &Toc) -> usize
     ensures body { result ≡ body_bit profile.now (types_of (listed toc.now)) }
-    ensures short { result ≤ 6200 }
+    ensures short { result ≤ 6160 }
 {
     if profile.octet_aligned {
         8 * (header_octets(profile) + toc.len() + checks_of(profile, toc))
