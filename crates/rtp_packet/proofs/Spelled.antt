@@ -1,19 +1,19 @@
 -- What is read of octets that spell the fields of a packet, whatever the padding octets but the last are.
-use Rattle.std.proofs.Common.{◌≡◌, ℕ, zero, suc, ◌+◌, ◌-◌, ◌*◌, ◌/◌, ◌%◌, ◌^◌, ◌<◌, ◌≤◌, Bool, true, false, cond, nat_eq, List, [], ◌∷◌, ◌++◌, length, take, drop, map, get_or, Option, Some, None, append_assoc, sym, refl, ap, ◌∙◌, subst, arith}
+use Rattle.std.proofs.Common.{◌≡◌, ℕ, zero, suc, ◌+◌, ◌-◌, ◌*◌, ◌/◌, ◌%◌, ◌^◌, ◌<◌, ◌≤◌, Bool, true, false, cond, nat_eq, List, [], ◌∷◌, ◌++◌, length, take, drop, map, replicate, get_or, Option, Some, None, Ok, append_assoc, sym, refl, ap, ◌∙◌, subst, arith}
 use Rattle.std.specs.Prelude.{not, nat_lt, ◌&&◌, ◌||◌, is_some, IfSome}
 use Rattle.std.specs.List.{AllByRecursion, range_with_len, flat_map}
 use Rattle.std.proofs.lemmas.Bool.Decides.{nat_tests}
-use Rattle.std.proofs.lemmas.List.{take_at, drop_at, drop-drop, length-append, get_or-append_right}
+use Rattle.std.proofs.lemmas.List.{take_at, drop_at, drop-drop, length-append, length-replicate, get_or-append_right}
 use Rattle.amr_bits.specs.Bits.{number, number_at, part}
 use Rattle.amr_bits.proofs.Runs.{run-drop}
 use Rattle.amr_bits.proofs.Filled.{map-shift}
 use Rattle.spec_packet.specs.Rtp.{Extension, RtpPacket}
-use Rattle.spec_packet.specs.RtpReading.{packet_at, rtp_refusal, sources_end, header_end, padding_in, is_extended, is_padded, version, extension_in}
+use Rattle.spec_packet.specs.RtpReading.{packet_at, rtp_refusal, sources_end, header_end, padding_in, is_extended, is_padded, version, extension_in, rtp_of}
 use Rattle.rtp_packet.specs.Fields.{AreFields, FitsExtension}
-use Rattle.rtp_packet.specs.Written.{octets_16, octets_32, fixed_octets, extension_octets, first_octet, second_octet}
+use Rattle.rtp_packet.specs.Written.{octets_16, octets_32, fixed_octets, extension_octets, first_octet, second_octet, written}
 use Rattle.rtp_packet.proofs.Octets.{low_four, low_seven, two_octets, four_octets}
-use Rattle.rtp_packet.proofs.Refusals.{IsHeader, left_rules, too_long, too_padded}
-use Rattle.rtp_packet.proofs.Small.{Small, small_nil, small_cons, small_append, small_of, small_16, small_32, small_sources, small_drop, length_sources}
+use Rattle.rtp_packet.proofs.Refusals.{IsHeader, left_rules, too_long, too_padded, taken}
+use Rattle.rtp_packet.proofs.Small.{Small, small_nil, small_cons, small_append, small_of, small_16, small_32, small_sources, small_zeros, small_drop, length_sources}
 
 -- padding with these octets before the last
 abbrev pub tail_of : ℕ → List ℕ → List ℕ
@@ -314,3 +314,11 @@ module _ (p : RtpPacket) (fill : List ℕ) (h : AreFields p) (full : length fill
       (ap (λ (k : ℕ). too_padded (is_padded all) (length all) (header_end all) k) padding
       ∙ ap (λ (k : ℕ). too_padded (is_padded all) (length all) k p.padding) extension.end
       ∙ fits_padded (is_padded all) (length all) (s + extension_len p.extension) p.padding has_padding (omega arith))
+
+-- reading what is written
+pub read_back : (p : RtpPacket) → AreFields p → rtp_of (written p) ≡ Ok p
+read_back p h =
+    let fill = replicate (p.padding - 1) 0 in
+    let full = length-replicate (p.padding - 1) 0 in
+    let small = small_spelled p fill h (small_zeros (p.padding - 1)) in
+    sym (taken (written p) (not_refused p fill h full small)) ∙ ap Ok (read_fields p fill h full small)
