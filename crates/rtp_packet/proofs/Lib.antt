@@ -9,3 +9,4 @@ pub mod Small
 pub mod Spelled
 pub mod Respelled
 pub mod Marked
+pub mod Grammar

@@ -1,6 +1,6 @@
 -- Lists of which each number is an octet.
-use Rattle.std.proofs.Common.{◌≡◌, ℕ, zero, suc, ◌+◌, ◌*◌, ◌/◌, ◌%◌, ◌<◌, List, [], ◌∷◌, ◌++◌, length, take, drop, replicate, get_or, sym, subst, arith}
-use Rattle.std.specs.List.{flat_map}
+use Rattle.std.proofs.Common.{◌≡◌, ℕ, zero, suc, ◌+◌, ◌*◌, ◌/◌, ◌%◌, ◌^◌, ◌<◌, List, [], ◌∷◌, ◌++◌, length, take, drop, replicate, get_or, sym, subst, arith}
+use Rattle.std.specs.List.{AllByRecursion, flat_map}
 use Rattle.std.proofs.lemmas.List.{get_or-drop, get_or_past}
 use Rattle.rtp_packet.specs.Fields.{AreOctets}
 use Rattle.rtp_packet.specs.Written.{octets_16, octets_32}
@@ -55,3 +55,7 @@ small_take (suc n) (x ∷ xs) s = small_cons x (take n xs) (s zero) (small_take 
 pub are_of : (xs : List ℕ) → Small xs → AreOctets xs
 are_of [] s = tt
 are_of (x ∷ xs) s = (s zero, are_of xs (λ i. s (suc i)))
+
+pub numbers_of : (xs : List ℕ) → ((i : ℕ) → get_or xs i 0 < 2 ^ 32) → AllByRecursion (λ s. s < 2 ^ 32) xs
+numbers_of [] s = tt
+numbers_of (x ∷ xs) s = (s zero, numbers_of xs (λ i. s (suc i)))

@@ -3,6 +3,7 @@
 #![tactic(auto)]
 
 mod fields;
+mod fit;
 mod head;
 mod header;
 mod law;

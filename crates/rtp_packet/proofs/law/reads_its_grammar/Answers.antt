@@ -1,57 +1,12 @@
-use Rattle.std.proofs.Common.{◌≡◌, ℕ, List, Some, None, Ok, Err, refl, sym, ap, ◌∙◌, subst}
-use Rattle.std.specs.Prelude.{◌↔◌}
-use Rattle.spec_packet.specs.Rtp.{RtpPacket, IsPacket}
-use Rattle.spec_packet.specs.RtpReading.{rtp_of, rtp_refusal, packet_at}
-use Rattle.rtp_packet.specs.Fields.{AreOctets}
-use Rattle.rtp_packet.proofs.Marked.{fields_of, spelling, is_packet}
-use Rattle.rtp_packet.proofs.Refusals.{refused, taken}
-use Rattle.rtp_packet.proofs.Respelled.{spells, are_fields, fill_of, fill_size}
-use Rattle.rtp_packet.proofs.Small.{Small, small_of}
-use Rattle.rtp_packet.proofs.Spelled.{read_fields, not_refused}
+use Rattle.std.proofs.Common.{sym, ◌∙◌}
+use Rattle.rtp_packet.proofs.Grammar.{accepts, reads, has, exactly}
 use Rattle.rtp_packet.proofs.law.reads_its_grammar.Goals as goal
 
-accepts : (p : RtpPacket) (octets : List ℕ) → AreOctets octets → IsPacket p octets → rtp_refusal octets ≡ None
-accepts p octets are h =
-    let small = small_of octets are in
-    let s = spelling p octets small h in
-    ap rtp_refusal s.join ∙ not_refused p s.fill (fields_of p octets h) s.size (subst Small s.join small)
-
-reads : (p : RtpPacket) (octets : List ℕ) → AreOctets octets → IsPacket p octets → packet_at octets ≡ p
-reads p octets are h =
-    let small = small_of octets are in
-    let s = spelling p octets small h in
-    ap packet_at s.join ∙ read_fields p s.fill (fields_of p octets h) s.size (subst Small s.join small)
-
-has : (octets : List ℕ) → AreOctets octets → rtp_refusal octets ≡ None → IsPacket (packet_at octets) octets
-has octets are ok =
-    let small = small_of octets are in
-    is_packet (packet_at octets) octets (fill_of octets small ok) (are_fields octets small ok) (spells octets small ok) (fill_size octets small ok)
-
-pub returns-clause-accepted : goal.returns-clause-accepted
-returns-clause-accepted c = accepts
-
-pub returns-clause-fields : goal.returns-clause-fields
-returns-clause-fields c = reads
-
-pub returns-clause-only : goal.returns-clause-only
-returns-clause-only c = has
-
--- what is read as a packet breaks no rule
-read_ok : (p : RtpPacket) (octets : List ℕ) → rtp_of octets ≡ Ok p → (rtp_refusal octets ≡ None) × (packet_at octets ≡ p)
-read_ok p octets e =
-    elim (rtp_refusal octets) as (λ o. rtp_refusal octets ≡ o → (rtp_refusal octets ≡ None) × (packet_at octets ≡ p)) [
-      | Some r ↦ λ q. let no : Err r ≡ Ok p = refused octets r q ∙ e in absurd cc
-      | None ↦ λ q. let same : Ok (packet_at octets) ≡ Ok p = taken octets q ∙ e in (q, cc)
-    ] refl
-
-exactly : (p : RtpPacket) (octets : List ℕ) → AreOctets octets → (rtp_of octets ≡ Ok p) ↔ IsPacket p octets
-exactly p octets are = (
-  λ e. let r = read_ok p octets e in subst (λ q. IsPacket q octets) r.1 (has octets are r.0),
-  λ h. sym (taken octets (accepts p octets are h)) ∙ ap Ok (reads p octets are h),
-)
-
-pub returns-clause-exact : goal.returns-clause-exact
-returns-clause-exact c = exactly
-
-pub returns-clause-one : goal.returns-clause-one
-returns-clause-one c = λ p q octets are a b. sym (reads p octets are a) ∙ reads q octets are b
+pub returns : goal.returns
+returns c = record {
+  accepted = accepts;
+  fields = reads;
+  only = has;
+  exact = exactly;
+  one = λ p q octets are a b. sym (reads p octets are a) ∙ reads q octets are b;
+}
