@@ -21,12 +21,14 @@ fn go<I: Source, O: Sink, T: Taker>(
     input: &mut I,
     sink: &mut GatherSink<'_, O>,
 ) -> Turn
+    requires taker { T.fresh taker.old }
     requires fresh { IsFresh reader.old }
     requires limit { limit_of reader.old ≤ 2 ^ 40 }
     requires empty { sink.old.gather.now.waiting ≡ [] }
 
     ensures after { After (T.puts taker.old) (T.ends taker.old) (T.stands taker.new) (limit_of reader.old) (I.left input.old) (I.left input.new) (O.got sink.old.output.now) (O.got sink.new.output.now) sink.new.gather.now.waiting (rest reader.new) result }
     ensures stopped { result ≢ Turn.Taken }
+    ensures ready { result ≢ Turn.WriteFault → T.ready taker.new }
     ensures kept { (T.puts taker.new ≡ T.puts taker.old) × (T.ends taker.new ≡ T.ends taker.old) }
     ensures alike { T.alike taker.old taker.new }
     ensures faults { TurnFaults result (I.faults input.old) (I.faults input.new) (O.faults sink.old.output.now) (O.faults sink.new.output.now) }
@@ -53,6 +55,7 @@ fn run_all<I: Source, O: Sink, T: Taker>(
     input: &mut I,
     sink: &mut GatherSink<'_, O>,
 ) -> LogEnd
+    requires taker { T.fresh taker.old }
     requires fresh { IsFresh reader.old }
     requires limit { limit_of reader.old ≤ 2 ^ 40 }
     requires empty { sink.old.gather.now.waiting ≡ [] }
@@ -94,6 +97,7 @@ pub fn drive<I: Source, O: Sink, T: Taker>(
     input: &mut I,
     sink: &mut GatherSink<'_, O>,
 ) -> LogEnd
+    requires taker { T.fresh taker.old }
     requires fresh { IsFresh reader.old }
     requires limit { limit_of reader.old ≤ 2 ^ 40 }
     requires empty { sink.old.gather.now.waiting ≡ [] }

@@ -19,6 +19,12 @@ pub trait Taker {
     /// It took these records.
     ghost stands: { Self → List (List ℕ) → Type 0 };
 
+    /// It hasn't started.
+    ghost fresh: { Self → Type 0 };
+
+    /// It has started, and takes records: it isn't finished, and no call failed.
+    ghost ready: { Self → Type 0 };
+
     /// The second does the same job as the first.
     ghost alike: { Self → Self → Type 0 };
 
@@ -32,8 +38,11 @@ pub trait Taker {
     ///
     /// `Failed` comes only where the output's faults rose. A part of it was then put out.
     fn start<O: Sink>(&mut self, output: &mut O) -> Result<(), Failed>
+        requires fresh { fresh self.old }
+
         ensures done { OnOk result (stands self.new [] × Appends (O.got output.old) (O.got output.new) (puts self.old [])) }
         ensures counted { OnOk result (taken self.new ≡ 0) }
+        ensures ready { OnOk result (ready self.new) }
         ensures failed { OnErr result (PutsPart (O.got output.old) (O.got output.new) [] (puts self.old [])) }
         ensures kept { (puts self.new ≡ puts self.old) × (ends self.new ≡ ends self.old) }
         ensures alike { alike self.old self.new }
@@ -44,9 +53,11 @@ pub trait Taker {
     ///
     /// `Failed` comes only where the output's faults rose. A part of it was then put out.
     fn take<O: Sink>(&mut self, packet: &[u8], output: &mut O) -> Result<(), Failed>
+        requires ready { ready self.old }
         requires few { taken self.old < 2 ^ 40 }
 
         ensures counted { OnOk result (taken self.new ≡ taken self.old + 1) }
+        ensures ready { OnOk result (ready self.new) }
         ensures done { OnOk result ((hs : List (List ℕ)) → stands self.old hs → stands self.new (hs ++ packet.now ∷ [])
             × Puts (O.got output.old) (O.got output.new) (puts self.old hs) (puts self.old (hs ++ packet.now ∷ []))) }
         ensures failed { OnErr result ((hs : List (List ℕ)) → stands self.old hs
@@ -60,6 +71,8 @@ pub trait Taker {
     ///
     /// `Failed` comes only where the output's faults rose. A part of it was then put out.
     fn finish<O: Sink>(&mut self, output: &mut O) -> Result<(), Failed>
+        requires ready { ready self.old }
+
         ensures done { OnOk result ((hs : List (List ℕ)) → stands self.old hs → closed self.new hs
             × Puts (O.got output.old) (O.got output.new) (puts self.old hs) (ends self.old hs)) }
         ensures failed { OnErr result ((hs : List (List ℕ)) → stands self.old hs → PutsPart (O.got output.old) (O.got output.new) (puts self.old hs) (ends self.old hs)) }

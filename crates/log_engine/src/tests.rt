@@ -20,6 +20,10 @@ impl Taker for Echo {
 
     ghost stands = { λ _ _. Unit {0} };
 
+    ghost fresh = { λ _. Unit {0} };
+
+    ghost ready = { λ _. Unit {0} };
+
     ghost alike = { λ _ _. Unit {0} };
 
     ghost taken = { λ echo. echo.taken };

@@ -19,7 +19,10 @@ pub(crate) fn begin<O: Sink, T: Taker>(
     taker: &mut T,
     sink: &mut GatherSink<'_, O>,
 ) -> Result<(), Failed>
+    requires fresh { T.fresh taker.old }
+
     ensures counted { OnOk result (T.taken taker.new ≡ 0) }
+    ensures ready { OnOk result (T.ready taker.new) }
     ensures done { OnOk result (T.stands taker.new [] × Appends (logical O.got sink.old) (logical O.got sink.new) (T.puts taker.old []) × (sink.new.gather.now.waiting ≡ [])) }
     ensures failed { OnErr result (PutsPart (logical O.got sink.old) (logical O.got sink.new) [] (T.puts taker.old [])) }
     ensures kept { (T.puts taker.new ≡ T.puts taker.old) × (T.ends taker.new ≡ T.ends taker.old) }
@@ -57,9 +60,11 @@ pub(crate) fn take_next<I: Source, O: Sink, T: Taker>(
     sink: &mut GatherSink<'_, O>,
 ) -> Turn
     requires open { IsOpen reader.old }
+    requires ready { T.ready taker.old }
     requires few { T.taken taker.old < 2 ^ 40 }
 
     ensures counted { result ≡ Turn.Taken → T.taken taker.new ≡ T.taken taker.old + 1 }
+    ensures ready { result ≢ Turn.WriteFault → T.ready taker.new }
     ensures turned { Turned (T.puts taker.old) (T.stands taker.old) (T.stands taker.new) (I.left input.old) (I.left input.new) reader.old reader.new (O.got sink.old.output.now) (O.got sink.new.output.now) sink.old.gather.now.waiting sink.new.gather.now.waiting result }
     ensures kept { (T.puts taker.new ≡ T.puts taker.old) × (T.ends taker.new ≡ T.ends taker.old) }
     ensures alike { T.alike taker.old taker.new }
@@ -88,6 +93,8 @@ pub(crate) fn close<O: Sink, T: Taker>(
     taker: &mut T,
     sink: &mut GatherSink<'_, O>,
 ) -> Result<(), Failed>
+    requires ready { T.ready taker.old }
+
     ensures done { OnOk result ((sink.new.gather.now.waiting ≡ []) × ((hs : List (List ℕ)) → T.stands taker.old hs
         → T.closed taker.new hs × Puts (logical O.got sink.old) (logical O.got sink.new) (T.puts taker.old hs) (T.ends taker.old hs))) }
     ensures failed { OnErr result ((hs : List (List ℕ)) → T.stands taker.old hs → PutsPart (logical O.got sink.old) (logical O.got sink.new) (T.puts taker.old hs) (T.ends taker.old hs)) }

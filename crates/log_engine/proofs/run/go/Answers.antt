@@ -24,6 +24,7 @@ records-init g c =
       puts = began.kept.0;
       ends = began.kept.1;
       alike = began.alike;
+      ready = began.ready;
       counted = omega (arith, began.counted, ap length c.requires.fresh.2);
       faults_in = refl;
       faults_out = began.cause;
@@ -65,6 +66,7 @@ records-preserved g c =
       puts = took.kept.0 ∙ kept.puts;
       ends = took.kept.1 ∙ kept.ends;
       alike = g.met.T.Taker.alike_through _ _ _ kept.alike took.alike;
+      ready = took.ready (λ e. absurd cc);
       counted = let size = turn_size turned.0 (rest old) (rest new) turned.1 turned.3.1 in let one = took.counted refl in let before = kept.counted in omega (arith, turned.2.taken, size, one, before);
       faults_in = took.faults.0 ∙ kept.faults_in;
       faults_out = took.faults.1 ∙ way.cause ∙ kept.faults_out;
@@ -110,6 +112,7 @@ returns-in_default-take_next g c =
     record {
       after = after_turn puts0 (g.T.Taker.ends c.args.taker.now) stands1 stands2 limit0 left0 left1 left2 got0 got2 got3 w2 w3 old new other (g.met.T.Taker.puts_grow c.args.taker.now) ready within limits took.grows turned;
       stopped = c.in_default-take_next.not-Taken;
+      ready = took.ready;
       kept = (took.kept.0 ∙ kept.puts, took.kept.1 ∙ kept.ends);
       alike = g.met.T.Taker.alike_through _ _ _ kept.alike took.alike;
       faults = faults_from other _ _ _ _ _ _ kept.faults_in (way.cause ∙ kept.faults_out) took.faults;

@@ -12,6 +12,7 @@ invariant-records g l = record {
   puts : g.T.Taker.puts l.taker ≡ g.T.Taker.puts l.fn.taker;
   ends : g.T.Taker.ends l.taker ≡ g.T.Taker.ends l.fn.taker;
   alike : g.T.Taker.alike l.fn.taker l.taker;
+  ready : g.T.Taker.ready l.taker;
   counted : 2 * g.T.Taker.taken l.taker + length (rest l.reader) ≤ l.reader.inlet.taken;
   faults_in : g.I.Source.faults l.input ≡ g.I.Source.faults l.fn.input;
   faults_out : g.O.Sink.faults l.sink.output.now ≡ g.O.Sink.faults l.fn.sink.output.now;
