@@ -135,7 +135,7 @@ pub fn accept<P: Frames, B: BlockSink>(
         → Gains B.whole out.old out.new (sent_of (rules_in plan.now) acc) (sent_of (rules_in plan.now) (acc ++ placed before.now head.now (P.value payload.now) place ∷ []))) }
     ensures rise { IfOk result (λ s. (t : Start) → before.now ≡ Some t → t.horizon + s.released ≤ s.session.horizon) }
     ensures none { IfOk result (λ s. before.now ≡ None → s.released ≡ 0) }
-    ensures few { IfOk result (λ s. s.copies ≤ 384) }
+    ensures few { IfOk result (λ s. (s.late ≤ 384) × (s.copies ≤ 384)) }
     ensures fits { IfOk result (λ s. before.now ≡ None → s.session.horizon < place + plan.now.window) }
     ensures part { OnErr result ((acc : List Accepted) → Holds (rules_in plan.now) before.now (held_of ring.old.items) acc
         → GainsPart B.whole B.part out.old out.new (sent_of (rules_in plan.now) acc) (sent_of (rules_in plan.now) (acc ++ placed before.now head.now (P.value payload.now) place ∷ []))) }
@@ -203,6 +203,7 @@ fn late_blocks<P: Frames>(plan: &Plan, edge: u64, place: u64, payload: &P) -> u3
     requires place { place < 2 ^ 62 + 2 ^ 30 }
     ensures late { (a : Accepted) → a.packet.value ≡ P.value payload.now → a.place ≡ at place → IsEdge (rules_in plan.now) a (at edge)
         → result ≡ late_in (rules_in plan.now) a }
+    ensures few { result ≤ length (P.value payload.now).frames }
 {
     let blocks = payload.frames() / usize::from(plan.profile.channels);
     let stride = u64::from(payload.stride());

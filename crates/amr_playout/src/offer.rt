@@ -1,5 +1,5 @@
 // Offering packets as they are read.
-ghost use Rattle.std.specs.Prelude.{◌≡◌, ◌+◌, ◌*◌, ◌^◌, ◌<◌, ◌++◌, IfErr, IfOk, IsTrue, List, OnOk, [], ◌∷◌, false, length, true};
+ghost use Rattle.std.specs.Prelude.{◌≡◌, ◌+◌, ◌*◌, ◌^◌, ◌<◌, ◌≤◌, ◌++◌, IfErr, IfOk, IsTrue, List, OnOk, [], ◌∷◌, false, length, true};
 ghost use Rattle.amr_io.specs.Fault.{Rose};
 ghost use Rattle.amr_playout.specs.Gains.{Gains, GainsPart};
 ghost use Rattle.amr_playout.specs.Heard.{heard};
@@ -9,7 +9,7 @@ ghost use Rattle.amr_playout.specs.Refusals.{IsRefusal, OnFault, OnRefusal};
 ghost use Rattle.amr_playout.specs.Standing.{IsBelow};
 ghost use Rattle.amr_toc.specs.Viewed.{format_of};
 ghost use Rattle.spec_session.specs.Packets.{Packet};
-ghost use Rattle.spec_session.specs.Session.{accepted, verdict};
+ghost use Rattle.spec_session.specs.Session.{Accept, Accepted, accepted, verdict};
 
 use crate::answers::{Offered, Taken};
 use crate::frames::Frames;
@@ -65,6 +65,9 @@ impl Receiver {
           blocks = self.old.counts.blocks + t.released;
         }) }
         ensures grows { IfOk result (λ t. Grows self.old.plan self.old.session self.new.session t.released) }
+        ensures few { IfOk result (λ t. (t.late ≤ 384) × (t.copies ≤ 384)) }
+        ensures taken { OnOk result ((h : List Packet) → StandsFor self.old h
+            → (a : Accepted) × (verdict (rules_in self.old.plan) (accepted (rules_in self.old.plan) h) (heard rtp.now payload.now) ≡ Accept a)) }
 
         ensures refused { IfErr result (λ e. OnRefusal e ((self.new ≡ self.old) × (out.new ≡ out.old))) }
         ensures verdict { IfErr result (λ e. OnRefusal e ((h : List Packet) → StandsFor self.old h

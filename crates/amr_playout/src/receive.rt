@@ -82,6 +82,10 @@ pub fn receive<P: Frames, B: BlockSink>(
     ensures grows { IfOk result (λ s. (t : Start) → before.now ≡ Some t → (t.horizon + s.released ≤ s.session.horizon) × (s.session.horizon ≤ t.horizon + plan.now.reach)) }
     ensures begins { IfOk result (λ s. before.now ≡ None → (s.released ≡ 0) × (s.session.horizon < 2 ^ 24 + plan.now.window)) }
 
+    ensures few { IfOk result (λ s. (s.late ≤ 384) × (s.copies ≤ 384)) }
+    ensures taken { OnOk result ((acc : List Accepted) → Holds (rules_in plan.now) before.now (held_of ring.old.items) acc
+        → (a : Accepted) × (verdict (rules_in plan.now) acc (packet head.now (P.value payload.now)) ≡ Accept a)) }
+
     ensures refused { IfErr result (λ e. (acc : List Accepted) → Holds (rules_in plan.now) before.now (held_of ring.old.items) acc
         → OnRefusal e ((with_packet (rules_in plan.now) acc (packet head.now (P.value payload.now)) ≡ acc) × IsRefusal (verdict (rules_in plan.now) acc (packet head.now (P.value payload.now))) e)) }
     ensures untouched { IfErr result (λ e. OnRefusal e ((ring.new ≡ ring.old) × (out.new ≡ out.old))) }

@@ -7,7 +7,7 @@ ghost use Rattle.amr_playout.specs.Standing.{IsBelow, packet};
 ghost use Rattle.spec_session.specs.Counts.{block_count};
 ghost use Rattle.spec_session.specs.Packets.{Packet};
 ghost use Rattle.spec_session.specs.Release.{released};
-ghost use Rattle.spec_session.specs.Session.{accepted, horizon, verdict};
+ghost use Rattle.spec_session.specs.Session.{Accept, Accepted, accepted, horizon, verdict};
 
 use crate::answers::{Kept, Offered, Taken};
 use crate::frames::Frames;
@@ -121,6 +121,9 @@ impl Receiver {
           blocks = self.old.counts.blocks + t.released;
         }) }
         ensures grows { IfOk result (λ t. Grows self.old.plan self.old.session self.new.session t.released) }
+        ensures few { IfOk result (λ t. (t.late ≤ 384) × (t.copies ≤ 384)) }
+        ensures taken { OnOk result ((h : List Packet) → StandsFor self.old h
+            → (a : Accepted) × (verdict (rules_in self.old.plan) (accepted (rules_in self.old.plan) h) (packet head.now (P.value payload.now)) ≡ Accept a)) }
 
         ensures refused { IfErr result (λ e. OnRefusal e ((self.new ≡ self.old) × (out.new ≡ out.old))) }
         ensures verdict { IfErr result (λ e. OnRefusal e ((h : List Packet) → StandsFor self.old h

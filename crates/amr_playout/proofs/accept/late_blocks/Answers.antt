@@ -36,4 +36,5 @@ returns g c = record {
       let count : c.frames.result / c.from.result ≡ blocks_in rules a.packet.value =
       ap (λ n. n / c.from.result) c.frames.ensures.count ∙ ap (λ n. length v.frames / n) c.from.ensures ∙ ap (blocks_in rules) (sym is) in
       c.loop-block.invariant.late a is here edge ∙ ap (count_to (λ k. not (in_time rules a (block_place a k)))) (end ∙ count));
+  few = (let t = c.loop-block-test.false in let f = c.loop-block.invariant.few in let e = c.loop-block.auto.block-end in let n = c.frames.ensures.count in omega (arith, f, n));
 }

@@ -7,7 +7,7 @@ use Rattle.amr_playout.specs.Refusals.{IsRefusal, OnFault, OnRefusal}
 use Rattle.amr_playout.specs.Standing.{packet}
 use Rattle.amr_toc.specs.Viewed.{viewed}
 use Rattle.spec_session.specs.Packets.{Packet}
-use Rattle.spec_session.specs.Session.{accepted, verdict}
+use Rattle.spec_session.specs.Session.{Accept, Accepted, accepted, verdict}
 use Rattle.amr_playout.proofs.receiver.Receiver.offer.Goals as goal
 use Rattle.amr_playout.proofs.receiver.Receiver.offer.Goals.{After-take}
 use Rattle.amr_playout.proofs.receiver.Receiver.offer.Given.{Over}
@@ -39,3 +39,7 @@ returns-clause-quiet g c =
 pub returns-clause-part : goal.returns-clause-part
 returns-clause-part g c =
     subst (λ (x : Packet). IfErr c.take.result (λ e. OnFault e ((h : List Packet) → StandsFor c.args.self.now h → GainsPart g.B.BlockSink.whole g.B.BlockSink.part c.args.out.now c.take.new.out (sent c.args.self.now.plan h) (sent c.args.self.now.plan (h ++ x ∷ []))))) (same g c) c.take.ensures.part
+
+pub returns-clause-taken : goal.returns-clause-taken
+returns-clause-taken g c =
+    subst (λ (x : Packet). OnOk c.take.result ((h : List Packet) → StandsFor c.args.self.now h → (a : Accepted) × (verdict (rules_in c.args.self.now.plan) (accepted (rules_in c.args.self.now.plan) h) x ≡ Accept a))) (same g c) c.take.ensures.taken
