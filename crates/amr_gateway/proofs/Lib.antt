@@ -1,4 +1,11 @@
+pub mod Bounds
+pub mod Carried
 pub mod Ending
-pub mod Read
-pub mod Single
-pub mod Standing
+pub mod Heard
+pub mod Offered
+pub mod Passing
+pub mod Plans
+pub mod Records
+pub mod Results
+pub mod Tallying
+pub mod Texts

@@ -1,8 +1,16 @@
 -- What a job asks.
+use Rattle.std.specs.Prelude.{◌≡◌, ◌≤◌, ◌^◌, false}
 use Rattle.amr_gateway.specs.declared.job.RecordJob.{RecordJob}
+use Rattle.amr_playout.specs.Plans.{IsPlan, rules_in}
 use Rattle.spec_record.specs.Recording.{Recording}
-use Rattle.spec_session.specs.Session.{rules_of}
 
--- the recording that a job asks: its format and its payload type or any, with a window of one block and a reach of 45000
+-- the recording that a job asks: its format, its payload type or any, and the rules of its plan
 abbrev pub recording_of : RecordJob → Recording
-recording_of job = record { profile = job.profile; asked = job.pt; rules = rules_of job.profile 1 45000 }
+recording_of job = record { profile = job.plan.profile; asked = job.pt; rules = rules_in job.plan }
+
+-- the jobs that are served: those of a valid plan for a bandwidth-efficient format, of at most 2^40 octets
+pub record IsServed (job : RecordJob) : Type 0 where
+  pub plan : IsPlan job.plan
+  pub packed : job.plan.profile.octet_aligned ≡ false
+  pub some : 1 ≤ job.limit
+  pub most : job.limit ≤ 2 ^ 40

@@ -1,5 +1,6 @@
-pub mod Built
 pub mod Ends
+pub mod Going
+pub mod Hearing
 pub mod Jobs
 pub mod Recorded
-pub mod Standing
+pub mod Tallies

@@ -1,17 +1,21 @@
-ghost use Rattle.std.specs.Prelude.{◌≡◌, ◌≤◌, ◌^◌, if◌then◌else◌, IfSome, Some, []};
-ghost use Rattle.amr_gateway.specs.Ends.{FaultsOf, ended};
-ghost use Rattle.amr_gateway.specs.Jobs.{recording_of};
-ghost use Rattle.amr_gateway.specs.Recorded.{Recorded, ends_of, puts_of};
-ghost use Rattle.amr_gateway.specs.Standing.{IsPlain};
+ghost use Rattle.std.specs.Prelude.{◌≡◌, ◌≤◌, ◌^◌, IfSome, Some, []};
+ghost use Rattle.amr_gateway.specs.Ends.{FaultsOf, IsWhole, ended};
+ghost use Rattle.amr_gateway.specs.Going.{IsNew};
+ghost use Rattle.amr_gateway.specs.Jobs.{IsServed, recording_of};
+ghost use Rattle.amr_gateway.specs.Recorded.{Recorded};
+ghost use Rattle.amr_gateway.specs.Tallies.{told_by};
 ghost use Rattle.log_engine.specs.Run.{FaultsOf as LogFaults};
 ghost use Rattle.log_engine.specs.Told.{BrokeReading, BrokeWriting, Told};
 ghost use Rattle.rtp_packet.specs.Reading.{IsFresh, limit_of};
-ghost use Rattle.spec_record.specs.FirstStage.{is_cut_short};
+ghost use Rattle.spec_record.specs.RecordCounts.{counts_of};
+ghost use Rattle.spec_record.specs.Recording.{early_of, file_of};
 
 use crate::job::RecordJob;
 use crate::recorder::Recorder;
 use crate::report::{RunEnd, RunReport};
 use amr_io::{Sink, Source};
+use amr_notes::Counts;
+use amr_playout::Receiver;
 use log_engine::{Gather, GatherSink, LogEnd, drive};
 use rtp_packet::LogReader;
 use std::alloc::Global;
@@ -21,40 +25,42 @@ const GATHERED: usize = 65536;
 
 /// Records a packet log as a storage file: the header, and what is released of its well-formed packets.
 ///
-/// In this stage the first well-formed packet is recorded, and the end is `NotBuilt` where another one comes. The format is
-/// bandwidth-efficient, with one channel and one block in a payload. All memory is taken before the first read. The run ends
-/// at the first fault of the input or the output; what it wrote then is a front of the file of the whole input.
+/// All memory is taken before the first read: the receiver has room for each channel of each frame time of the window, and no
+/// later packet is refused for memory. The run ends at the first fault of the input or the output; what it wrote then is a
+/// front of the file of the whole input. The counts are those of the records at each end but a fault and want of memory.
 pub fn record_log<I: Source, O: Sink>(
     alloc: Global,
     job: &RecordJob,
     input: &mut I,
     output: &mut O,
 ) -> RunReport
-    requires plain { IsPlain job.now }
-    requires some { 1 ≤ job.now.limit }
-    requires most { job.now.limit ≤ 2 ^ 40 }
+    requires served { IsServed job.now }
 
-    ensures recorded { IfSome (I.left input.old) (λ all. Recorded job.now all (O.got output.old) (O.got output.new) result) }
+    ensures recorded { IsWhole result.end → IfSome (I.left input.old) (λ all. Recorded job.now all (O.got output.old) (O.got output.new) result) }
     ensures nothing_left { result.end ≡ RunEnd.Done → IfSome (I.left input.old) (λ _. I.left input.new ≡ Some []) }
-    ensures read_fault { result.end ≡ RunEnd.ReadFault → BrokeReading (puts_of (recording_of job.now)) (ends_of (recording_of job.now)) job.now.limit
+    ensures read_fault { result.end ≡ RunEnd.ReadFault → BrokeReading (early_of (recording_of job.now)) (file_of (recording_of job.now)) job.now.limit
         (I.left input.old) (I.left input.new) (O.got output.old) (O.got output.new) }
-    ensures write_fault { result.end ≡ RunEnd.WriteFault → BrokeWriting (puts_of (recording_of job.now)) (ends_of (recording_of job.now)) job.now.limit
+    ensures write_fault { result.end ≡ RunEnd.WriteFault → BrokeWriting (early_of (recording_of job.now)) (file_of (recording_of job.now)) job.now.limit
         (I.left input.old) (I.left input.new) (O.got output.old) (O.got output.new) }
     ensures memory { result.end ≡ RunEnd.OutOfMemory → (input.new ≡ input.old) × (output.new ≡ output.old) }
 
     ensures faults { FaultsOf result.end (I.faults input.old) (I.faults input.new) (O.faults output.old) (O.faults output.new) }
     ensures same { O.same output.old output.new }
 {
+    let Ok(receiver) = Receiver::create(alloc, job.plan) else {
+        return no_memory();
+    };
     let Ok(mut reader) = LogReader::create(alloc, job.limit) else {
         return no_memory();
     };
     let Ok(mut gather) = Gather::create(alloc, GATHERED) else {
         return no_memory();
     };
-    let mut recorder = Recorder::new(job);
+    let mut recorder = Recorder::new(job, receiver);
     let end = run_log(&mut recorder, &mut reader, &mut gather, input, output);
     RunReport {
-        end: end_of_run(recorder.unbuilt, end),
+        end: end_of_run(end),
+        counts: recorder.counts(),
     }
 }
 
@@ -66,16 +72,16 @@ fn run_log<I: Source, O: Sink>(
     input: &mut I,
     output: &mut O,
 ) -> LogEnd
+    requires new { IsNew recorder.old.receiver recorder.old.tally }
     requires fresh { IsFresh reader.old }
     requires limit { limit_of reader.old ≤ 2 ^ 40 }
     requires empty { gather.old.waiting ≡ [] }
 
-    ensures job { recorder.new.job ≡ recorder.old.job }
-    ensures told { IfSome (I.left input.old) (λ all. Told (ends_of (recording_of recorder.old.job)) (λ records. recorder.new.unbuilt ≡ is_cut_short recorder.new.job.profile recorder.new.job.pt records)
+    ensures told { IfSome (I.left input.old) (λ all. Told (file_of (recording_of recorder.old.job)) (λ records. told_by recorder.new.tally recorder.new.receiver.counts ≡ counts_of (recording_of recorder.old.job) records)
         (limit_of reader.old) all (O.got output.old) (O.got output.new) result) }
-    ensures read_fault { result ≡ LogEnd.ReadFault → BrokeReading (puts_of (recording_of recorder.old.job)) (ends_of (recording_of recorder.old.job)) (limit_of reader.old)
+    ensures read_fault { result ≡ LogEnd.ReadFault → BrokeReading (early_of (recording_of recorder.old.job)) (file_of (recording_of recorder.old.job)) (limit_of reader.old)
         (I.left input.old) (I.left input.new) (O.got output.old) (O.got output.new) }
-    ensures write_fault { result ≡ LogEnd.WriteFault → BrokeWriting (puts_of (recording_of recorder.old.job)) (ends_of (recording_of recorder.old.job)) (limit_of reader.old)
+    ensures write_fault { result ≡ LogEnd.WriteFault → BrokeWriting (early_of (recording_of recorder.old.job)) (file_of (recording_of recorder.old.job)) (limit_of reader.old)
         (I.left input.old) (I.left input.new) (O.got output.old) (O.got output.new) }
     ensures nothing_left { result ≡ LogEnd.Done → IfSome (I.left input.old) (λ _. I.left input.new ≡ Some []) }
     ensures faults { LogFaults result (I.faults input.old) (I.faults input.new) (O.faults output.old) (O.faults output.new) }
@@ -91,25 +97,19 @@ fn no_memory() -> RunReport
 {
     RunReport {
         end: RunEnd::OutOfMemory,
+        counts: Counts::none(),
     }
 }
 
-/// The end of a run whose log ended so, by whether a record came that isn't taken yet.
-fn end_of_run(unbuilt: bool, end: LogEnd) -> RunEnd
-    ensures { result ≡ ended unbuilt end }
+/// The end of a run whose log ended so.
+fn end_of_run(end: LogEnd) -> RunEnd
+    ensures { result ≡ ended end }
 {
     match end {
         LogEnd::ReadFault => RunEnd::ReadFault,
         LogEnd::WriteFault => RunEnd::WriteFault,
-        LogEnd::Done => served(unbuilt, RunEnd::Done),
-        LogEnd::LogCut { have } => served(unbuilt, RunEnd::LogCut { have }),
-        LogEnd::LimitReached => served(unbuilt, RunEnd::LimitReached),
+        LogEnd::Done => RunEnd::Done,
+        LogEnd::LogCut { have } => RunEnd::LogCut { have },
+        LogEnd::LimitReached => RunEnd::LimitReached,
     }
-}
-
-/// The end of a run without a fault.
-fn served(unbuilt: bool, end: RunEnd) -> RunEnd
-    ensures { result ≡ (if unbuilt then RunEnd.NotBuilt else end) }
-{
-    if unbuilt { RunEnd::NotBuilt } else { end }
 }

@@ -1,3 +1,5 @@
+use amr_notes::Counts;
+
 /// How a run ended.
 #[derive(Clone, Copy, Debug, PartialEq, Eq)]
 pub enum RunEnd {
@@ -13,12 +15,11 @@ pub enum RunEnd {
     OutOfMemory,
     /// The input has more octets than the limit.
     LimitReached,
-    /// A record isn't taken yet: what belongs to the records before it was written.
-    NotBuilt,
 }
 
-/// How a run ended.
+/// How a run ended, and what it counted. After a fault and for want of memory the counts say nothing.
 #[derive(Clone, Copy, Debug, PartialEq, Eq)]
 pub struct RunReport {
     pub end: RunEnd,
+    pub counts: Counts,
 }

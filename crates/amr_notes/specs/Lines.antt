@@ -3,7 +3,7 @@ use Rattle.std.specs.Prelude.{ℕ, List, [], ◌++◌, Option, codes, decimal}
 use Rattle.std.specs.Prelude as option
 use Rattle.amr_notes.specs.declared.counts.Counts.{Counts}
 use Rattle.amr_notes.specs.declared.last.LastLine.{LastLine}
-use Rattle.amr_notes.specs.declared.last.LastLine.TheVariants.{None, Usage, Truncated, ReadFault, WriteFault, OutOfMemory, LimitReached, NotBuilt}
+use Rattle.amr_notes.specs.declared.last.LastLine.TheVariants.{None, Usage, Truncated, ReadFault, WriteFault, OutOfMemory, LimitReached}
 
 -- the counts of a run that records a log, each behind its name
 abbrev pub record_line : Counts → List ℕ
@@ -28,7 +28,6 @@ last_line ReadFault = codes "read fault\n"
 last_line WriteFault = codes "write fault\n"
 last_line OutOfMemory = codes "out of memory\n"
 last_line LimitReached = codes "limit reached\n"
-last_line NotBuilt = codes "not built\n"
 
 -- the notes of a run: the line of its counts, where there are any, and its last line
 abbrev pub notes_text : Option Counts → LastLine → List ℕ

@@ -20,6 +20,4 @@ pub enum LastLine {
     OutOfMemory,
     /// The input is longer than the run may read.
     LimitReached,
-    /// A record of the log isn't taken yet.
-    NotBuilt,
 }

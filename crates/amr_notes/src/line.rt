@@ -59,7 +59,6 @@ pub fn gather_last(last: LastLine) -> Line
         LastLine::WriteFault => line.push_str("write fault\n"),
         LastLine::OutOfMemory => line.push_str("out of memory\n"),
         LastLine::LimitReached => line.push_str("limit reached\n"),
-        LastLine::NotBuilt => line.push_str("not built\n"),
     }
     line
 }

@@ -1,3 +1,2 @@
-pub mod FirstStage
 pub mod RecordCounts
 pub mod Recording

@@ -2,7 +2,6 @@
 use Rattle.std.specs.Prelude.{ℕ, cond, nat_lt, List, [], ◌∷◌, length, take, ℤ, pos, ◌-ℤ◌, Option, None, Some}
 use Rattle.amr_frame.specs.declared.profile.Profile.{Profile}
 use Rattle.spec_packet.specs.Log.{cut}
-use Rattle.spec_record.specs.FirstStage.{built, is_cut_short}
 use Rattle.amr_frame.specs.Frames.{Frame}
 use Rattle.spec_session.specs.Packets.{Packet, packets_of}
 use Rattle.spec_session.specs.Release.{released, released_up_to}
@@ -42,11 +41,10 @@ rest_of limit input = (cut (take limit input)).rest
 
 -- what is written for an input
 abbrev pub output_of : Recording → ℕ → List ℕ → List ℕ
-output_of r limit input = file_of r (built r.profile r.asked (records_of limit input))
+output_of r limit input = file_of r (records_of limit input)
 
 -- how a recording ends without a fault
 pub data End : Type 0 where
-  NotBuilt : End
   LimitReached : End
   LogCut : (have : ℕ) → End
   Done : End
@@ -56,8 +54,6 @@ abbrev pub rest_end : List ℕ → End
 rest_end [] = Done
 rest_end (o ∷ rest) = LogCut (length (o ∷ rest))
 
--- the first that holds: a record isn't taken yet, the input is longer than the limit, the log is cut inside a record, or
--- all was read
-abbrev pub end_of : Recording → ℕ → List ℕ → End
-end_of r limit input = cond (is_cut_short r.profile r.asked (records_of limit input)) NotBuilt
-    (cond (nat_lt limit (length input)) LimitReached (rest_end (rest_of limit input)))
+-- the first that holds: the input is longer than the limit, the log is cut inside a record, or all was read
+abbrev pub end_of : ℕ → List ℕ → End
+end_of limit input = cond (nat_lt limit (length input)) LimitReached (rest_end (rest_of limit input))

@@ -1,6 +1,6 @@
 ghost use Rattle.spec_packet.specs.Log.{cut};
 ghost use Rattle.spec_record.specs.RecordCounts.{counts_of};
-ghost use Rattle.spec_record.specs.Recording.{Done, LimitReached, LogCut, NotBuilt, end_of, output_of};
+ghost use Rattle.spec_record.specs.Recording.{Done, LimitReached, LogCut, end_of, output_of};
 ghost use Rattle.std.specs.Prelude.{◌++◌, ◌∷◌, ◌≡◌, ◌^◌, Some, []};
 ghost use Rattle.worked_rows.specs.Words.{counts, magic, packed, rec, recording, rtp, seven, zeros};
 
@@ -29,10 +29,10 @@ pub fn counts_of_recordings()
 
 /// How a recording ends, and what it has written then.
 pub fn recordings_end()
-    ensures whole { end_of (recording packed 1) (2 ^ 40) (rec 0 0 seven) ≡ Done }
-    ensures at_limit { end_of (recording packed 1) 14 (zeros 14) ≡ Done }
-    ensures past_limit { end_of (recording packed 1) 14 (zeros 15) ≡ LimitReached }
-    ensures cut_short { end_of (recording packed 1) (2 ^ 40) (zeros 15) ≡ LogCut 1 }
-    ensures repeated { end_of (recording packed 1) (2 ^ 40) (rec 0 0 seven ++ rec 0 0 seven) ≡ NotBuilt }
+    ensures whole { end_of (2 ^ 40) (rec 0 0 seven) ≡ Done }
+    ensures at_limit { end_of 14 (zeros 14) ≡ Done }
+    ensures past_limit { end_of 14 (zeros 15) ≡ LimitReached }
+    ensures cut_short { end_of (2 ^ 40) (zeros 15) ≡ LogCut 1 }
+    ensures repeated { end_of (2 ^ 40) (rec 0 0 seven ++ rec 0 0 seven) ≡ Done }
     ensures repeated_output { output_of (recording packed 1) (2 ^ 40) (rec 0 0 seven ++ rec 0 0 seven) ≡ magic ++ 0x3C ∷ zeros 31 }
 {}

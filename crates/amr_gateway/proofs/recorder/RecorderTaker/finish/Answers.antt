@@ -1,30 +1,34 @@
-use Rattle.std.proofs.Common.{◌≡◌, ◌∷◌, ◌++◌, [], ap, sym, subst, ◌∙◌, Some, append_assoc}
-use Rattle.std.proofs.lemmas.Result.{on_err_weaker}
-use Rattle.std.proofs.lemmas.Result.{on_ok_weaker}
-use Rattle.amr_frame.specs.Cells.{frame_of}
-use Rattle.amr_gateway.proofs.Single.{cut_told, ends_more}
-use Rattle.amr_gateway.proofs.recorder.RecorderTaker.finish.Goals as goal
+use Rattle.std.proofs.Common.{◌≡◌, ◌≤◌, ◌^◌, ℕ, List, ◌∷◌, ◌++◌, [], refl, ap, sym, ◌∙◌, subst, arith}
+use Rattle.std.specs.Prelude.{map, sum}
+use Rattle.amr_gateway.proofs.Results.{on_err_then, on_ok_all}
+use Rattle.amr_gateway.proofs.Tallying.{told_right}
+use Rattle.amr_gateway.proofs.Texts.{file_part, file_puts}
 use Rattle.amr_gateway.specs.Jobs.{recording_of}
-use Rattle.amr_gateway.specs.Recorded.{puts_of}
-use Rattle.amr_gateway.specs.Standing.{Stands}
-use Rattle.spec_store.specs.StorageFile.{block_text}
+use Rattle.amr_playout.specs.Plans.{rules_in}
+use Rattle.amr_playout.specs.declared.plan.Plan.{Plan}
+use Rattle.spec_session.specs.Counts.{copy_count, late_count}
+use Rattle.spec_session.specs.Packets.{packets_of}
+use Rattle.amr_gateway.proofs.recorder.RecorderTaker.finish.Goals as goal
 
-pub returns-in-Some-clause-done : goal.returns-in-Some-clause-done
-returns-in-Some-clause-done g c =
-    let self = c.args.self.now in
-    on_ok_weaker c.put_frame.result
-    (λ put. λ hs s.
-    let kept = subst (λ k. Stands self.job self.unbuilt k hs) c.in-Some.is s in
-    (cut_told self.job self.unbuilt (Some c.in-Some.cell) hs kept, (block_text (frame_of c.in-Some.cell ∷ []), put, ends_more self.job self.plain self.unbuilt c.in-Some.cell hs kept)))
-    c.put_frame.ensures.whole
+pub end_session-requires-clause-bounded : goal.end_session-requires-clause-bounded
+end_session-requires-clause-bounded g c = (c.args.self.now.tally.packets, c.requires.ready.few, c.requires.ready.bounded)
 
-pub returns-in-Some-clause-failed : goal.returns-in-Some-clause-failed
-returns-in-Some-clause-failed g c =
-    let self = c.args.self.now in
-    on_err_weaker c.put_frame.result
-    (λ put. λ hs s.
-    let kept = subst (λ k. Stands self.job self.unbuilt k hs) c.in-Some.is s in
-    let more = ends_more self.job self.plain self.unbuilt c.in-Some.cell hs kept in
-    let before = puts_of (recording_of self.job) hs in
-    (put.0, put.3, (put.1, more ∙ ap (λ t. before ++ t) put.2 ∙ sym (append_assoc before put.0 put.1))))
-    c.put_frame.ensures.part
+pub returns-clause-done : goal.returns-clause-done
+returns-clause-done g c =
+    let job = c.args.self.now.job in
+    let v = c.args.self.now.receiver in
+    on_ok_all _ _ _ _ c.end_session.result
+    (λ out kept all hs s.
+    let h = packets_of job.plan.profile job.pt hs in (
+      told_right job c.args.self.now.tally v.counts c.end_session.new.receiver.counts hs h refl s.tallied
+      (subst (λ (p : Plan). v.counts.late ≡ late_count (rules_in p) h) c.args.self.now.plan s.heard.counted.late)
+      (subst (λ (p : Plan). v.counts.copies ≡ copy_count (rules_in p) h) c.args.self.now.plan s.heard.counted.copies)
+      kept (all h s.heard),
+      file_puts job _ _ hs (out h s.heard),
+    ))
+    c.end_session.ensures.out c.end_session.ensures.kept c.end_session.ensures.all
+
+pub returns-clause-failed : goal.returns-clause-failed
+returns-clause-failed g c =
+    let job = c.args.self.now.job in
+    on_err_then _ _ c.end_session.result (λ part hs s. file_part job _ _ hs (part (packets_of job.plan.profile job.pt hs) s.heard)) c.end_session.ensures.part

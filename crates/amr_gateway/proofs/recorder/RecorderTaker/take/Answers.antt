@@ -1,13 +1,20 @@
-use Rattle.std.proofs.Common.{◌≡◌, ◌∷◌, ◌++◌, [], ap, sym, subst}
-use Rattle.std.proofs.KnownBytes.{Appends-nil}
-use Rattle.amr_gateway.proofs.Single.{puts_same}
+use Rattle.std.proofs.Common.{◌≡◌, ◌∷◌, ◌++◌, [], ap, sym, ◌∙◌, subst}
+use Rattle.amr_gateway.proofs.Results.{on_err}
+use Rattle.amr_gateway.proofs.Tallying.{tallied_more}
+use Rattle.amr_gateway.proofs.Texts.{early_part, early_puts}
+use Rattle.amr_gateway.specs.Jobs.{recording_of}
 use Rattle.amr_gateway.proofs.recorder.RecorderTaker.take.Goals as goal
-use Rattle.amr_gateway.specs.Standing.{Stands}
+
+pub returns-in_err-heard-clause-failed : goal.returns-in_err-heard-clause-failed
+returns-in_err-heard-clause-failed g c = on_err c.from_residual.result _ (λ hs s. early_part c.args.self.now.job _ _ hs c.args.packet.now (c.in_err-heard.ensures.part.out hs s.heard))
 
 pub returns-clause-done : goal.returns-clause-done
 returns-clause-done g c = λ hs s.
-    let self = c.args.self.now in
-    let new = c.hear.new.self in
-    let stands = c.hear.ensures.stands hs s in
-    let same = subst (λ job. Stands job new.unbuilt new.first (hs ++ c.args.packet.now ∷ [])) c.hear.ensures.job stands in
-    (stands, ([], Appends-nil _, puts_same self.job self.plain self.unbuilt new.unbuilt self.first new.first hs c.args.packet.now s same))
+    let job = c.args.self.now.job in
+    let heard = c.in_ok-heard.ensures in (
+      record {
+        heard = heard.heard.stands hs s.heard;
+        tallied = tallied_more (recording_of job) c.args.self.now.tally c.count.new.self hs c.args.packet.now c.in_ok-heard.heard c.count.ensures.counted heard.told (heard.accepted.accepts hs s.heard) s.tallied;
+      },
+      early_puts job _ _ hs c.args.packet.now (heard.out.out hs s.heard),
+    )

@@ -1,0 +1,40 @@
+-- What a recorder holds while records come: ours.
+use Rattle.std.specs.Prelude.{◌≡◌, ℕ, ◌+◌, ◌*◌, ◌^◌, ◌≤◌, false, List, [], Option, Some, None}
+use Rattle.amr_gateway.specs.Jobs.{recording_of}
+use Rattle.amr_gateway.specs.Tallies.{IsSmall, Tallied}
+use Rattle.amr_gateway.specs.declared.job.RecordJob.{RecordJob}
+use Rattle.amr_gateway.specs.declared.tally.Tally.{Tally}
+use Rattle.amr_playout.specs.Receiver.{StandsFor, View}
+use Rattle.amr_playout.specs.declared.session.Begun.{Begun}
+use Rattle.spec_session.specs.Packets.{packets_of}
+
+-- it took these records
+pub record Stands (job : RecordJob) (v : View) (t : Tally) (records : List (List ℕ)) : Type 0 where
+  pub heard : StandsFor v (packets_of job.plan.profile job.pt records)
+  pub tallied : Tallied (recording_of job) t records
+
+-- n records take a session no further than this: a record takes the horizon no further than the reach, and no more blocks
+-- went out than the horizon has passed
+abbrev pub IsWithin : ℕ → Option Begun → ℕ → Type 0
+IsWithin n None blocks = blocks ≡ 0
+IsWithin n (Some s) blocks = (blocks ≤ s.horizon) × (s.horizon ≤ 2 ^ 24 + 4096 + n * 45000)
+
+-- n records count no more than this: each has at most 384 late blocks and 384 copies
+pub record IsBounded (n : ℕ) (v : View) : Type 0 where
+  pub late : v.counts.late ≤ n * 384
+  pub copies : v.counts.copies ≤ n * 384
+  pub within : IsWithin n v.session v.counts.blocks
+
+-- it took no record
+pub record IsNew (v : View) (t : Tally) : Type 0 where
+  pub heard : StandsFor v []
+  pub session : v.session ≡ None
+  pub counts : v.counts ≡ record { late = 0; copies = 0; blocks = 0 }
+  pub tally : t ≡ record { packets = 0; null = 0; rtp = 0; other_type = 0; payload = 0; place = 0 }
+
+-- it takes records
+pub record IsGoing (v : View) (t : Tally) : Type 0 where
+  pub unspent : v.spent ≡ false
+  pub small : IsSmall t
+  pub few : t.packets ≤ 2 ^ 40
+  pub bounded : IsBounded t.packets v
