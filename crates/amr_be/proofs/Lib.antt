@@ -1,1 +1,5 @@
+pub mod Again
+pub mod Canonical
+pub mod Counts
+pub mod Parts
 pub mod Rules

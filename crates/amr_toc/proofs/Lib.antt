@@ -1,5 +1,8 @@
 pub mod Ends
+pub mod EntryBits
 pub mod InPayload
 pub mod Filling
 pub mod Shown
 pub mod Sizes
+pub mod Tables
+pub mod Writing

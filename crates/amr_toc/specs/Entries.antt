@@ -1,7 +1,22 @@
--- Entries of a table of contents, by themselves.
-use Rattle.std.specs.Prelude.{ℕ, ◌<◌, ◌≤◌, List, length, slice_index_or}
+-- Entries of a table of contents, by themselves, and the bits that a table is written as.
+use Rattle.std.specs.Prelude.{ℕ, ◌-◌, ◌<◌, ◌≤◌, Bool, List, [], length, map, slice_index_or}
+use Rattle.amr_bits.specs.Layout.{settled}
+use Rattle.amr_frame.specs.Frames.{Frame}
 use Rattle.amr_toc.specs.declared.entry.Entry.{Entry}
+use Rattle.spec_payload.specs.Grammar.{entry, table}
 
 -- each entry has a type of four bits
 abbrev pub HasTypes : List Entry → Type 0
 HasTypes es = (k : ℕ) (other : Entry) → k < length es → (slice_index_or es k other).ft ≤ 15
+
+-- the frame that an entry heads, but for its bits
+abbrev pub headed : Entry → Frame
+headed e = record { ft = e.ft; q = e.q; bits = [] }
+
+-- an entry as it is written, 6 or 8 bits wide: F is 1 where more entries follow, and free bits are 0
+abbrev pub entry_text : ℕ → Entry → Bool → List Bool
+entry_text width e more = map settled (entry (width - 6) (headed e) more)
+
+-- a table as it is written
+abbrev pub table_text : ℕ → List Entry → List Bool
+table_text width es = map settled (table (width - 6) (map headed es))

@@ -1,0 +1,88 @@
+ghost use Rattle.std.specs.Prelude.{◌≡◌, ◌+◌, ◌*◌, ◌^◌, ◌≤◌, ◌<◌, ◌++◌, false, length, take};
+ghost use Rattle.amr_be.specs.Parts.{HaveTypes, body_part, table_part};
+ghost use Rattle.amr_bits.specs.Bits.{filled, octets_for};
+ghost use Rattle.amr_bits.specs.Written.{front};
+ghost use Rattle.amr_frame.specs.Blocks.{frames_of};
+ghost use Rattle.amr_frame.specs.Profiles.{IsValid};
+ghost use Rattle.amr_toc.specs.Payloads.{IsCarried, meant};
+ghost use Rattle.spec_payload.specs.Grammar.{text};
+
+use amr_bits::BitWriter;
+use amr_frame::{Cell, Profile};
+use amr_toc::{Entry, Payload, entries_within, put_entry};
+
+/// How many octets a bandwidth-efficient payload has.
+pub fn size_be(profile: &Profile, payload: &Payload<'_>) -> usize
+    requires valid { IsValid profile.now }
+    requires packed { profile.now.octet_aligned ≡ false }
+    requires payload { IsCarried profile.now payload.now }
+
+    ensures size { result ≡ length (text profile.now (meant payload.now)) }
+    ensures some { 1 ≤ result }
+    ensures most { result ≤ 23185 }
+{
+    entries_within(profile);
+    let cells = payload.cells;
+    (4 + 6 * cells.len() + body_bits(cells)).div_ceil(8)
+}
+
+/// How many bits the frames of cells have.
+fn body_bits(cells: &[Cell]) -> usize
+    requires { length cells.now ≤ 384 }
+    ensures bits { result ≡ length (body_part (frames_of cells.now)) }
+{
+    let mut bits = 0;
+    for cell in cells {
+        bits += cell.bits.len();
+    }
+    bits
+}
+
+/// Writes a bandwidth-efficient payload, with the pad bits 0. All of `out` is then the payload.
+pub fn write_be(profile: &Profile, payload: &Payload<'_>, out: &mut [u8])
+    requires valid { IsValid profile.now }
+    requires packed { profile.now.octet_aligned ≡ false }
+    requires payload { IsCarried profile.now payload.now }
+    requires size { length out.old ≡ length (text profile.now (meant payload.now)) }
+
+    ensures { out.new ≡ text profile.now (meant payload.now) }
+{
+    entries_within(profile);
+    let mut at = BitWriter::new();
+    at.put(out, payload.cmr as u32, 4);
+    put_table(payload.cells, &mut at, out);
+    put_bodies(payload.cells, &mut at, out);
+}
+
+/// Writes the table of contents of cells behind the bits written.
+fn put_table(cells: &[Cell], at: &mut BitWriter, out: &mut [u8])
+    requires some { 1 ≤ length cells.now }
+    requires types { HaveTypes cells.now }
+    requires fits { at.old.written + 6 * length cells.now ≤ 8 * length out.old }
+    requires counts { at.old.written + 6 * length cells.now < 2 ^ 64 }
+    ensures written { at.new.written ≡ at.old.written + 6 * length cells.now }
+    ensures bits { front out.new at.new.written ≡ front out.old at.old.written ++ table_part (frames_of cells.now) }
+{
+    for k in 0..cells.len() {
+        let cell = &cells[k];
+        let entry = Entry {
+            ft: cell.ft,
+            q: cell.q,
+        };
+        put_entry(entry, k + 1 < cells.len(), 6, at, out);
+    }
+}
+
+/// Writes the bits of the frames of cells behind the bits written, and zeros up to a whole octet.
+fn put_bodies(cells: &[Cell], at: &mut BitWriter, out: &mut [u8])
+    requires some { 1 ≤ length cells.now }
+    requires fits { at.old.written + length (body_part (frames_of cells.now)) ≤ 8 * length out.old }
+    requires counts { at.old.written + length (body_part (frames_of cells.now)) < 2 ^ 64 }
+    ensures written { at.new.written ≡ at.old.written + length (body_part (frames_of cells.now)) }
+    ensures bits { front out.new at.new.written ≡ front out.old at.old.written ++ body_part (frames_of cells.now) }
+    ensures filled { take (octets_for at.new.written) out.new ≡ filled (front out.new at.new.written) }
+{
+    for cell in cells {
+        at.put_bits(out, cell.bits.as_bits());
+    }
+}

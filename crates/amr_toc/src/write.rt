@@ -1,0 +1,43 @@
+ghost use Rattle.std.specs.Prelude.{◌≡◌, ◌+◌, ◌*◌, ◌^◌, ◌≤◌, ◌<◌, ◌++◌, ◌⊎◌, drop, length, take};
+ghost use Rattle.amr_bits.specs.Bits.{filled, octets_for};
+ghost use Rattle.amr_bits.specs.Written.{front};
+ghost use Rattle.amr_toc.specs.Entries.{HasTypes, entry_text, table_text};
+
+use crate::entry::Entry;
+use amr_bits::BitWriter;
+
+/// Writes a table of contents behind the bits written, entries of 6 bits (RFC 4867, 4.3.2) or 8 bits
+/// (4.4.2). F is 1 on each entry but the last, and the two bits P of an entry of 8 bits are 0. The other
+/// bits of a begun octet become 0.
+pub fn write_toc(entries: &[Entry], width: u32, at: &mut BitWriter, out: &mut [u8])
+    requires some { 1 ≤ length entries.now }
+    requires most { length entries.now ≤ 384 }
+    requires types { HasTypes entries.now }
+    requires width { (width ≡ 6) ⊎ (width ≡ 8) }
+    requires fits { at.old.written + width * length entries.now ≤ 8 * length out.old }
+    requires counts { at.old.written + width * length entries.now < 2 ^ 64 }
+    ensures written { at.new.written ≡ at.old.written + width * length entries.now }
+    ensures bits { front out.new at.new.written ≡ front out.old at.old.written ++ table_text width entries.now }
+    ensures filled { take (octets_for at.new.written) out.new ≡ filled (front out.new at.new.written) }
+    ensures later { drop (octets_for at.new.written) out.new ≡ drop (octets_for at.new.written) out.old }
+{
+    for k in 0..entries.len() {
+        put_entry(entries[k], k + 1 < entries.len(), width, at, out);
+    }
+}
+
+/// Writes one entry of a table of contents behind the bits written, with F = 1 where more entries follow.
+/// The other bits of a begun octet become 0.
+pub fn put_entry(entry: Entry, more: bool, width: u32, at: &mut BitWriter, out: &mut [u8])
+    requires type_exists { entry.ft ≤ 15 }
+    requires width { (width ≡ 6) ⊎ (width ≡ 8) }
+    requires fits { at.old.written + width ≤ 8 * length out.old }
+    requires counts { at.old.written + width < 2 ^ 64 }
+    ensures written { at.new.written ≡ at.old.written + width }
+    ensures bits { front out.new at.new.written ≡ front out.old at.old.written ++ entry_text width entry more }
+    ensures filled { take (octets_for at.new.written) out.new ≡ filled (front out.new at.new.written) }
+    ensures later { drop (octets_for at.new.written) out.new ≡ drop (octets_for at.new.written) out.old }
+{
+    let bits = 32 * more as u32 + 2 * entry.ft as u32 + entry.q as u32;
+    at.put(out, bits << (width - 6), width);
+}
