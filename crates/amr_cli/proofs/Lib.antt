@@ -1,3 +1,3 @@
 pub mod Clauses
-pub mod Jobs
+pub mod Texts
 pub mod Verdicts

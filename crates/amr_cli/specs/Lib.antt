@@ -1,3 +1,4 @@
 pub mod Jobs
+pub mod Noted
 pub mod Runs
 pub mod Statuses

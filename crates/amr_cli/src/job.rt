@@ -1,10 +1,12 @@
 ghost use Rattle.std.specs.Prelude.{◌≡◌, IfSome};
 ghost use Rattle.amr_cli.specs.Jobs.{IsServed, job_of, record_job as job_for};
+ghost use Rattle.command_words.specs.Jobs.{AreWithin};
 ghost use Rattle.command_words.specs.Words.{texts};
 
-use amr_frame::{Codec, Profile};
+use amr_frame::Profile;
 use amr_gateway::RecordJob;
-use command_words::{Command, read_command};
+use amr_playout::Plan;
+use command_words::{Command, RecordWords, read_command};
 
 /// What the words ask for.
 #[derive(Clone, Copy, Debug, PartialEq, Eq)]
@@ -18,25 +20,32 @@ pub fn read_words(words: &[String]) -> Option<Job>
     ensures job { result ≡ job_of (texts words.now) }
     ensures served { IfSome result IsServed }
 {
-    if words.len() != 3 {
-        return None;
-    }
     match read_command(words) {
         None => None,
-        Some(Command::Record(record)) => Some(Job::RecordLog(record_job(record.codec))),
+        Some(Command::Record(values)) => record_job(&values),
     }
 }
 
-/// Recording packets of any payload type, with one frame each.
-fn record_job(codec: Codec) -> RecordJob
-    ensures job { result ≡ job_for codec }
-    ensures served { IsServed (Job.RecordLog result) }
+/// Recording what these values ask; there is no job where their plan isn't valid.
+fn record_job(values: &RecordWords) -> Option<Job>
+    requires within { AreWithin values.now }
+
+    ensures job { result ≡ job_for values.now }
+    ensures served { IfSome result IsServed }
 {
-    let mut profile = Profile::plain(codec, 1);
-    profile.max_blocks = 1;
-    RecordJob {
+    let mut profile = Profile::plain(values.codec, values.channels);
+    profile.max_blocks = values.max_blocks;
+    let plan = Plan {
         profile,
-        pt: None,
-        limit: 1 << 40,
+        window: values.window,
+        reach: values.reach,
+    };
+    match plan.check() {
+        Err(_) => None,
+        Ok(()) => Some(Job::RecordLog(RecordJob {
+            plan,
+            pt: values.pt,
+            limit: values.limit,
+        })),
     }
 }

@@ -1,5 +1,5 @@
 ghost use Rattle.std.specs.Prelude.{◌≡◌};
-ghost use Rattle.amr_cli.specs.Statuses.{number_for, status_for};
+ghost use Rattle.amr_cli.specs.Statuses.{blamed_for, number_for, status_for};
 
 use amr_gateway::RunEnd;
 
@@ -14,14 +14,12 @@ pub enum Status {
     InputRefused,
     /// A read failed.
     ReadFault,
-    /// A write failed.
+    /// A write failed: one to the output, or one to the notes where all else was done.
     WriteFault,
     /// There was no memory; nothing was read or put out.
     OutOfMemory,
     /// The input has more octets than the limit; those within it were recorded.
     LimitReached,
-    /// A record isn't taken yet; what belongs to the records before it was recorded.
-    NotBuilt,
 }
 
 /// The status of a run that ended so.
@@ -35,7 +33,16 @@ pub fn status_of(end: RunEnd) -> Status
         RunEnd::WriteFault => Status::WriteFault,
         RunEnd::OutOfMemory => Status::OutOfMemory,
         RunEnd::LimitReached => Status::LimitReached,
-        RunEnd::NotBuilt => Status::NotBuilt,
+    }
+}
+
+/// The status of a run that ended so and whose notes failed.
+pub fn blamed(end: RunEnd) -> Status
+    ensures { result ≡ blamed_for end }
+{
+    match end {
+        RunEnd::Done => Status::WriteFault,
+        other => status_of(other),
     }
 }
 
@@ -51,6 +58,5 @@ pub fn number_of(status: Status) -> u8
         Status::WriteFault => 4,
         Status::OutOfMemory => 5,
         Status::LimitReached => 6,
-        Status::NotBuilt => 8,
     }
 }
