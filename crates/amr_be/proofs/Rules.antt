@@ -1,7 +1,7 @@
 -- The first rule that a bandwidth-efficient payload breaks, by the table that is read of it.
 use Rattle.std.proofs.Common.{◌≡◌, ℕ, ◌+◌, ◌*◌, ◌%◌, ◌<◌, ◌≤◌, Bool, true, false, eqb, ltb, List, [], ◌∷◌, length, map, refl, ap, ◌∙◌, sym, subst, arith, Option, Some, None}
-use Rattle.std.specs.Prelude.{sum, ◌⊎◌, Ok}
-use Rattle.std.proofs.lemmas.Bool.{eq-eqb, ne_eqb, le-ltb, ltb-false}
+use Rattle.std.specs.Prelude.{sum, ◌⊎◌}
+use Rattle.std.proofs.lemmas.Bool.{ne_eqb, le-ltb}
 use Rattle.std.proofs.lemmas.List.{length-map}
 use Rattle.amr_bits.specs.Bits.{bits_at, octets_for}
 use Rattle.amr_frame.specs.declared.codec.Codec.{Codec}
@@ -9,23 +9,20 @@ use Rattle.amr_frame.specs.declared.profile.Profile.{Profile}
 use Rattle.amr_frame.specs.First.{when, first}
 use Rattle.amr_frame.specs.Profiles.{IsValid}
 use Rattle.amr_frame.specs.Tables.{bits_in}
-use Rattle.amr_be.specs.Needs.{misfit, need_by}
+use Rattle.amr_be.specs.Needs.{need_by}
 use Rattle.amr_toc.specs.declared.entry.Entry.{Entry}
+use Rattle.amr_toc.specs.Fitting.{misfit}
 use Rattle.amr_toc.specs.Lists.{types_of, toc_at}
 use Rattle.amr_toc.specs.Table.{table_of, table_refusal, fault_of, last_of}
 use Rattle.amr_toc.specs.Told.{IsAccepted, IsRefused}
 use Rattle.amr_toc.proofs.InPayload.{last_same, last_fault, table_same}
 use Rattle.amr_toc.proofs.Shown.{types_same}
-use Rattle.payload_laws.proofs.Formats.{plain, plain_of, plain_is, first_none, when_none}
+use Rattle.payload_laws.proofs.Formats.{plain, plain_of, plain_is, first_none}
 use Rattle.spec_payload.specs.declared.refusal.PayloadRefusal.{PayloadRefusal}
 use Rattle.spec_payload.specs.declared.refusal.PayloadRefusal.TheVariants as why
-use Rattle.spec_payload.specs.Reading.{entries, types, entry_fault, last_entry, need, payload_refusal, read_as, value_at, checks_at}
-use Rattle.spec_payload.specs.Seen.{seen}
+use Rattle.spec_payload.specs.Reading.{entries, types, entry_fault, last_entry, need}
 
 -- the first of the rules, where one holds
-at_empty : (e : Bool) (x : PayloadRefusal) (os : List (Option PayloadRefusal)) → e ≡ true → first (when e x ∷ os) ≡ Some x
-at_empty e x os h = rw h refl
-
 at_table : (e : Bool) (x r : PayloadRefusal) (o t : Option PayloadRefusal) (os : List (Option PayloadRefusal)) → e ≡ false → first (o ∷ t ∷ []) ≡ Some r → first (when e x ∷ None ∷ None ∷ o ∷ t ∷ os) ≡ Some r
 at_table true x r o t os h f = absurd cc
 at_table false x r None None os h f = absurd cc
@@ -90,26 +87,3 @@ module _ (codec : Codec) (c m : ℕ) (octets : List ℕ) (n : ℕ) (fits : 4 + n
 pub rules : (p : Profile) (octets : List ℕ) (n : ℕ) → IsValid p → p.octet_aligned ≡ false → 4 + n ≤ 8 * length octets → (4 + n ≡ 8 * length octets) ⊎ (3080 ≤ n) → p.max_blocks * p.channels ≤ 384 → Rules p octets n
 rules p octets n valid packed fits enough few =
     subst (λ q. Rules q octets n) (plain_is p (plain_of p valid packed)) (rules_plain p.codec p.channels p.max_blocks octets n fits enough few)
-
--- no octet is refused as none
-pub empty_is : (p : Profile) (octets : List ℕ) → length octets ≡ 0 → IsRefused p octets why.Empty
-empty_is p octets e = record { first = at_empty (eqb (length octets) 0) why.Empty _ (eq-eqb (length octets) 0 e) }
-
--- a number that isn't 0
-pub above : (n : ℕ) → (n ≡ 0 → ⊥) → 0 < n
-above n h = omega (arith, h)
-
--- octets that fit are as many as needed
-pub exactly : (n have : ℕ) → misfit n have ≡ None → n ≡ have
-exactly n have e =
-    let f = first_none (when (ltb have n) (why.BodyShort n have)) _ e in
-    let g = first_none (when (ltb n have) (why.BodyLong n have)) [] f.1 in
-    let a = ltb-false have n (when_none (ltb have n) (why.BodyShort n have) f.0) in
-    let b = ltb-false n have (when_none (ltb n have) (why.BodyLong n have) g.0) in
-    omega arith
-
--- what octets that aren't refused say
-pub read_is : (p q : Profile) (octets others : List ℕ) → payload_refusal p octets ≡ None → q ≡ p → others ≡ octets → read_as p octets ≡ Ok (seen q (value_at q others) (checks_at q others))
-read_is p q octets others none e f =
-    let this : read_as p octets ≡ Ok (seen p (value_at p octets) (checks_at p octets)) = rw none refl in
-    this ∙ ap Ok (λ i. seen (sym e i) (value_at (sym e i) (sym f i)) (checks_at (sym e i) (sym f i)))

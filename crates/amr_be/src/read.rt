@@ -1,7 +1,7 @@
 ghost use Rattle.std.specs.Prelude.{◌≡◌, ◌+◌, ◌*◌, ◌≤◌, ◌<◌, ◌⊎◌, IfErr, IfOk, false, length};
 ghost use Rattle.amr_bits.specs.Bits.{bits_at};
 ghost use Rattle.amr_bits.specs.Runs.{run};
-ghost use Rattle.amr_be.specs.Needs.{misfit, need_by};
+ghost use Rattle.amr_be.specs.Needs.{need_by};
 ghost use Rattle.amr_frame.specs.Profiles.{IsValid};
 ghost use Rattle.amr_toc.specs.Lists.{listed, toc_at};
 ghost use Rattle.amr_toc.specs.Told.{IsAccepted, IsRead, IsRefused};
@@ -9,7 +9,7 @@ ghost use Rattle.amr_toc.specs.Viewed.{format_of, octets_of, viewed};
 
 use amr_bits::BitSlice;
 use amr_frame::Profile;
-use amr_toc::{PayloadRefusal, PayloadView, Toc, bits_before, entries_within, read_toc};
+use amr_toc::{PayloadRefusal, PayloadView, Toc, bits_before, entries_within, misfit_of, read_toc};
 
 /// Reads a bandwidth-efficient payload in place. Refuses octets by the first of P1, P4 to P7, P9 and P10
 /// that holds of them; the others are of interleaved payloads.
@@ -48,24 +48,10 @@ fn accept(profile: &Profile, octets: &[u8]) -> Result<Toc, PayloadRefusal>
         Ok(toc) => toc,
         Err(why) => return Err(why),
     };
-    if let Some(why) = misfit_of(profile, octets.len(), &toc) {
+    if let Some(why) = misfit_of(need_of(profile, &toc), octets.len()) {
         return Err(why);
     }
     Ok(toc)
-}
-
-/// Why so many octets don't fit the table, where they are too few or too many.
-fn misfit_of(profile: &Profile, have: usize, toc: &Toc) -> Option<PayloadRefusal>
-    ensures { result ≡ misfit (need_by profile.now.codec (listed toc.now)) have }
-{
-    let need = need_of(profile, toc);
-    if have < need {
-        return Some(PayloadRefusal::BodyShort { need, have });
-    }
-    if need < have {
-        return Some(PayloadRefusal::BodyLong { need, have });
-    }
-    None
 }
 
 /// The bits behind the codec mode request: all, or at least those of the greatest table. A slice may have

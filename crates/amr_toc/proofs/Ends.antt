@@ -29,13 +29,13 @@ pub goes_on : (o : Option PayloadRefusal) (b : Bool) → o ≡ None → b ≡ tr
 goes_on o b e f = rw (e, f) refl
 
 -- the third of three rules holds
-third : (a b d : Bool) (x y z : PayloadRefusal) → d ≡ true → is_some (first (when a x ∷ when b y ∷ when d z ∷ [])) ≡ true
+pub third : (a b d : Bool) (x y z : PayloadRefusal) → d ≡ true → is_some (first (when a x ∷ when b y ∷ when d z ∷ [])) ≡ true
 third true b d x y z e = refl
 third false true d x y z e = refl
 third false false d x y z e = rw e refl
 
 -- where the first of two holds
-or_true : (a b : Bool) → a ≡ true → (a || b) ≡ true
+pub or_true : (a b : Bool) → a ≡ true → (a || b) ≡ true
 or_true true b e = refl
 or_true false b e = absurd cc
 

@@ -1,8 +1,15 @@
+pub mod Accepted
+pub mod CheckPlaces
 pub mod Ends
 pub mod EntryBits
 pub mod InPayload
 pub mod Filling
+pub mod Marked
+pub mod Orders
 pub mod Shown
 pub mod Sizes
+pub mod Standing
 pub mod Tables
+pub mod Telling
+pub mod Valued
 pub mod Writing

@@ -1,7 +1,9 @@
 pub mod Cleared
 pub mod Entries
+pub mod Fitting
 pub mod Lists
 pub mod Payloads
+pub mod Places
 pub mod Table
 pub mod Told
 pub mod Viewed

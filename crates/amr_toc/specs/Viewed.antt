@@ -4,7 +4,8 @@ use Rattle.amr_frame.specs.declared.profile.Profile.{Profile}
 use Rattle.amr_frame.specs.Frames.{Frame, no_data}
 use Rattle.amr_toc.specs.declared.view.PayloadView.{PayloadView}
 use Rattle.spec_payload.specs.Grammar.{check_of}
-use Rattle.spec_payload.specs.Reading.{value_at, checks_at}
+use Rattle.amr_toc.specs.Places.{octet_place}
+use Rattle.spec_payload.specs.Reading.{value_at, checks_at, types}
 use Rattle.spec_payload.specs.Seen.{seen}
 use Rattle.spec_payload.specs.Values.{Value, has_bits}
 
@@ -27,8 +28,16 @@ viewed view = seen view.profile (said view) (checks_at view.profile view.octets.
 abbrev pub frame_in : Value → ℕ → Frame
 frame_in v k = slice_index_or v.frames k no_data
 
--- whether frame k has a CRC, and it differs; each frame that has bits takes the next CRC
+-- how many CRCs come before that of frame k: each frame that has bits takes the next
+abbrev pub checks_to : List Frame → ℕ → ℕ
+checks_to frames k = length (filter has_bits (take k frames))
+
+-- whether frame k has a CRC, and it differs
 abbrev pub is_damaged : PayloadView → ℕ → Bool
 is_damaged view k =
-    let check = slice_index (checks_at view.profile view.octets.now) (length (filter has_bits (take k (said view).frames))) in
+    let check = slice_index (checks_at view.profile view.octets.now) (checks_to (said view).frames k) in
     view.profile.crc && (has_bits (frame_in (said view) k) && not (nat_eq check (check_of view.profile (frame_in (said view) k))))
+
+-- octet o of frame k as it stands in an octet-aligned payload, its fill bits too
+abbrev pub standing : PayloadView → ℕ → ℕ → ℕ
+standing view k o = slice_index view.octets.now (octet_place view.profile (types view.profile view.octets.now) k o)

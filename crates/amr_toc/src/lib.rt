@@ -1,7 +1,10 @@
 //! Tables of contents of payloads, payloads that are read in place, and those that are to be written (RFC 4867, 4.3 and 4.4).
 #![tactic(auto)]
 
+mod checks;
+mod counts;
 mod entry;
+mod header;
 mod octets;
 mod payload;
 mod read;
@@ -10,9 +13,11 @@ mod tests;
 mod view;
 mod write;
 
+pub use counts::{bits_before, checks_of, misfit_of, octets_before};
 pub use entry::{Entry, Toc};
+pub use header::{header_octets, interleaving_number};
 pub use payload::Payload;
 pub use read::{entries_within, read_toc};
 pub use spec_payload::PayloadRefusal;
-pub use view::{PayloadView, bits_before};
+pub use view::PayloadView;
 pub use write::{put_entry, write_toc};

@@ -1,17 +1,23 @@
-ghost use Rattle.std.specs.Prelude.{◌≡◌, ◌+◌, ◌*◌, ◌/◌, ◌≤◌, ◌<◌, ◌↔◌, IfSome, IsNone, None, Some, false, length, map, slice_index, sum, take, true};
-ghost use Rattle.amr_bits.specs.Bits.{filled, octets_for};
+ghost use Rattle.std.specs.Prelude.{◌≡◌, ◌+◌, ◌-◌, ◌*◌, ◌/◌, ◌%◌, ◌^◌, ◌≤◌, ◌<◌, ◌↔◌, ℕ, IfSome, IsNone, None, Some, false, length, nat_eq, slice_index, slice_index_or, true};
+ghost use Rattle.amr_bits.specs.Bits.{bits_at, filled, octets_for};
 ghost use Rattle.amr_bits.specs.Runs.{run};
 ghost use Rattle.amr_frame.specs.Cells.{IsCell, held};
 ghost use Rattle.amr_frame.specs.Profiles.{IsValid};
 ghost use Rattle.amr_frame.specs.Tables.{bits_in};
+ghost use Rattle.amr_guard.specs.Sorting.{IsOctet};
 ghost use Rattle.amr_toc.specs.Lists.{listed, toc_at, types_of};
-ghost use Rattle.spec_payload.specs.Reading.{entry_start, payload_refusal};
+ghost use Rattle.amr_toc.specs.Places.{bits_to, body_bit, sizes_in};
+ghost use Rattle.spec_payload.specs.Reading.{checks_at, payload_refusal};
 ghost use Rattle.spec_payload.specs.Values.{IsValue};
 
+use crate::checks::check_over;
+use crate::counts::{bits_before, checks_of, filled_before, octet_counts, octets_before};
 use crate::entry::{Entry, Toc};
+use crate::header::{header_octets, interleaving_number};
 use crate::octets::octet_in;
 use amr_bits::BitSlice;
 use amr_frame::{Cell, Profile, bits_of};
+use amr_guard::sorted_place;
 
 /// A payload that was read, in place: its octets, its table of contents and where its body begins.
 #[derive(Drop)]
@@ -19,29 +25,29 @@ pub struct PayloadView<'a> {
     profile: Profile,
     octets: &'a [u8],
     toc: Toc,
-    /// The first bit behind the table.
+    /// The first bit behind the table and the CRCs.
     body: usize,
     ghost valid: { IsValid profile },
-    ghost packed: { profile.octet_aligned ≡ false },
     ghost accepted: { payload_refusal profile octets.now ≡ None },
     ghost table: { listed toc ≡ toc_at profile octets.now },
-    ghost behind: { body ≡ entry_start profile (length (listed toc)) },
+    ghost behind: { body ≡ body_bit profile (types_of (listed toc)) },
+    ghost short: { body ≤ 6160 },
 }
 
 impl<'a> PayloadView<'a> {
-    ghost use Rattle.amr_toc.specs.Viewed.{format_of, frame_in, is_damaged, octets_of, said, viewed};
+    ghost use Rattle.amr_toc.specs.Viewed.{checks_to, format_of, frame_in, is_damaged, octets_of, said, standing, viewed};
+    ghost use Rattle.spec_payload.specs.Grammar.{check_of};
 
     /// The view of a payload's octets, of which `toc` is the table of contents.
     pub fn over(profile: &Profile, octets: &'a [u8], toc: Toc) -> PayloadView<'a>
         requires valid { IsValid profile.now }
-        requires packed { profile.now.octet_aligned ≡ false }
         requires accepted { payload_refusal profile.now octets.now ≡ None }
         requires table { listed toc ≡ toc_at profile.now octets.now }
 
         ensures format { format_of result ≡ profile.now }
         ensures octets { octets_of result ≡ octets.now }
     {
-        let body = 4 + 6 * toc.len();
+        let body = body_of(profile, &toc);
         PayloadView {
             profile: *profile,
             octets,
@@ -82,18 +88,26 @@ impl<'a> PayloadView<'a> {
         self.toc.len() / self.profile.channels as usize
     }
 
-    /// How many frame times apart the blocks stand.
+    /// How many frame times apart the blocks stand: ILL and one more where the format interleaves
+    /// (RFC 4867, 4.4.1), else 1.
     pub fn stride(&self) -> u8
         ensures { result ≡ (viewed self.now).stride }
     {
-        1
+        if self.profile.interleaving.is_none() {
+            return 1;
+        }
+        interleaving_number(self.octets, 0) + 1
     }
 
-    /// The number of the payload in its interleaving group.
+    /// The number of the payload in its interleaving group, from 0: ILP where the format interleaves
+    /// (RFC 4867, 4.4.1), else 0.
     pub fn index(&self) -> u8
         ensures { result ≡ (viewed self.now).index }
     {
-        0
+        if self.profile.interleaving.is_none() {
+            return 0;
+        }
+        interleaving_number(self.octets, 4)
     }
 
     /// Entry `at` of the table of contents, as it stands there.
@@ -102,6 +116,7 @@ impl<'a> PayloadView<'a> {
         ensures small { result.ft ≤ 15 }
         ensures ft { result.ft ≡ (frame_in (said self.now) at).ft }
         ensures quality { result.q ≡ (frame_in (said self.now) at).q }
+        ensures size { length (frame_in (said self.now) at).bits ≡ bits_in (format_of self.now).codec result.ft }
     {
         self.toc.entry(at)
     }
@@ -111,17 +126,32 @@ impl<'a> PayloadView<'a> {
         requires { at < length (viewed self.now).frames }
         ensures { result ≡ is_damaged self.now at }
     {
-        false
+        if !self.profile.crc {
+            return false;
+        }
+        if bits_of(self.profile.codec, self.toc.entry(at).ft) == 0 {
+            return false;
+        }
+        self.check_sent(at) != self.check_due(at)
     }
 
-    /// Octet `octet` of frame `at`, the last being filled: with zero bits where the format isn't
-    /// octet-aligned.
+    /// Octet `octet` of frame `at`. In an octet-aligned payload its fill bits are as they stand, in
+    /// another they are 0.
     pub fn octet(&self, at: usize, octet: usize) -> u8
         requires frame { at < length (viewed self.now).frames }
         requires octet { octet < octets_for (length (frame_in (said self.now) at).bits) }
         ensures filled { (format_of self.now).octet_aligned ≡ false → result ≡ slice_index (filled (frame_in (said self.now) at).bits) octet }
+        ensures standing { (format_of self.now).octet_aligned ≡ true → result ≡ standing self.now at octet }
+        ensures bits { (format_of self.now).octet_aligned ≡ true → (i : ℕ) → i < 8 → 8 * octet + i < length (frame_in (said self.now) at).bits → nat_eq (result / 2 ^ (7 - i) % 2) 1 ≡ slice_index_or (frame_in (said self.now) at).bits (8 * octet + i) false }
     {
-        octet_in(self.run_of(at), octet)
+        if !self.profile.octet_aligned {
+            return octet_in(self.run_of(at), octet);
+        }
+        if !self.profile.sorting {
+            return self.octets[self.start_of(at) / 8 + octet];
+        }
+        let counts = octet_counts(&self.profile, &self.toc);
+        self.sorted_octet(&counts[..self.toc.len()], at, octet)
     }
 
     /// The bits of frame `at`, lent from the payload; `None` where the format sorts the octets.
@@ -144,35 +174,113 @@ impl<'a> PayloadView<'a> {
         ensures valid { IsCell (format_of self.now).codec result }
     {
         let entry = self.entry(at);
-        Cell::from_bits(self.profile.codec, entry.ft, entry.q, self.run_of(at))
+        let damaged = self.damaged(at);
+        let q = entry.q && !damaged;
+        if !self.profile.sorting {
+            return Cell::from_bits(self.profile.codec, entry.ft, q, self.run_of(at));
+        }
+        let gathered = self.gathered(at);
+        let bits = BitSlice {
+            octets: &gathered,
+            start: 0,
+            len: bits_of(self.profile.codec, entry.ft),
+        };
+        Cell::from_bits(self.profile.codec, entry.ft, q, bits)
     }
 
-    /// The bits of frame `at` in the payload.
-    fn run_of(&self, at: usize) -> BitSlice<'a>
+    /// The CRC that came for frame `at` (RFC 4867, 4.4.2.1).
+    fn check_sent(&self, at: usize) -> u8
+        requires frame { at < length (viewed self.now).frames }
+        requires checks { self.now.profile.crc ≡ true }
+        requires filled { 0 < length (frame_in (said self.now) at).bits }
+        ensures { result ≡ slice_index (checks_at self.now.profile self.now.octets.now) (checks_to (said self.now).frames at) }
+    {
+        self.octets[header_octets(&self.profile)
+            + self.toc.len()
+            + filled_before(&self.profile, &self.toc, at)]
+    }
+
+    /// The CRC of frame `at`.
+    fn check_due(&self, at: usize) -> u8
         requires { at < length (viewed self.now).frames }
+        ensures { result ≡ check_of self.now.profile (frame_in (said self.now) at) }
+    {
+        let codec = self.profile.codec;
+        let ft = self.toc.entry(at).ft;
+        if !self.profile.sorting {
+            return check_over(codec, ft, self.run_of(at));
+        }
+        let gathered = self.gathered(at);
+        let bits = BitSlice {
+            octets: &gathered,
+            start: 0,
+            len: bits_of(codec, ft),
+        };
+        check_over(codec, ft, bits)
+    }
+
+    /// The bits of frame `at` in a payload whose octets aren't sorted.
+    fn run_of(&self, at: usize) -> BitSlice<'a>
+        requires frame { at < length (viewed self.now).frames }
+        requires plain { self.now.profile.sorting ≡ false }
         ensures bits { run result ≡ (frame_in (said self.now) at).bits }
         ensures lent { result.octets.now ≡ self.now.octets.now }
         ensures len { result.len ≡ bits_in self.now.profile.codec (frame_in (said self.now) at).ft }
     {
-        let len = bits_of(self.profile.codec, self.toc.entry(at).ft);
-        let start = self.body + bits_before(&self.profile, &self.toc, at);
         BitSlice {
             octets: self.octets,
-            start,
-            len,
+            start: self.start_of(at),
+            len: bits_of(self.profile.codec, self.toc.entry(at).ft),
         }
+    }
+
+    /// The first bit of frame `at` in a payload whose octets aren't sorted.
+    fn start_of(&self, at: usize) -> usize
+        requires { at < length (listed self.now.toc) }
+        ensures { result ≡ self.now.body + bits_to self.now.profile (types_of (listed self.now.toc)) at }
+    {
+        if self.profile.octet_aligned {
+            self.body + 8 * octets_before(&self.profile, &self.toc, at)
+        } else {
+            self.body + bits_before(&self.profile, &self.toc, at)
+        }
+    }
+
+    /// The octets of frame `at` of a payload whose octets are sorted, brought together; zeros behind them.
+    fn gathered(&self, at: usize) -> [u8; 60]
+        requires frame { at < length (viewed self.now).frames }
+        requires sorted { self.now.profile.sorting ≡ true }
+        ensures { bits_at result 0 (length (frame_in (said self.now) at).bits) ≡ (frame_in (said self.now) at).bits }
+    {
+        let counts = octet_counts(&self.profile, &self.toc);
+        let counts = &counts[..self.toc.len()];
+        let mut octets = [0; 60];
+        for octet in 0..counts[at] as usize {
+            octets[octet] = self.sorted_octet(counts, at, octet);
+        }
+        octets
+    }
+
+    /// Octet `octet` of frame `at` of a payload whose octets are sorted, where the frames have so many
+    /// octets.
+    fn sorted_octet(&self, counts: &[u8], at: usize, octet: usize) -> u8
+        requires sorted { self.now.profile.sorting ≡ true }
+        requires counts { counts.now ≡ sizes_in self.now.profile (types_of (listed self.now.toc)) }
+        requires exists { IsOctet counts.now at octet }
+        ensures { result ≡ standing self.now at octet }
+    {
+        self.octets[self.body / 8 + sorted_place(counts, at, octet)]
     }
 }
 
-/// The number of bits of the frames before frame `at`.
-pub fn bits_before(profile: &Profile, toc: &Toc, at: usize) -> usize
-    requires { at ≤ length (listed toc.now) }
-    ensures sum { result ≡ sum (map (bits_in profile.now.codec) (take at (types_of (listed toc.now)))) }
-    ensures most { result ≤ 477 * at }
+/// The first bit behind the table and the CRCs.
+fn body_of(profile: &Profile, toc: &Toc) -> usize
+    ensures body { result ≡ body_bit profile.now (types_of (listed toc.now)) }
+    ensures short { result ≤ 6160 }
 {
-    let mut bits = 0;
-    for k in 0..at {
-        bits += bits_of(profile.codec, toc.entry(k).ft);
+    if profile.octet_aligned {
+        8 * (header_octets(profile) + toc.len() + checks_of(profile, toc))
+    } else {
+        4 + 6 * toc.len()
     }
-    bits
 }

@@ -1,8 +1,9 @@
 use Rattle.std.proofs.Common.{◌≡◌, ◌<◌, None, length, ap, sym, refl, ◌∙◌, inl}
 use Rattle.std.proofs.lemmas.Bool.{eqb-true, eqb-false}
 use Rattle.amr_bits.specs.Bits.{bits_at}
-use Rattle.amr_be.specs.Needs.{misfit, need_by}
-use Rattle.amr_be.proofs.Rules.{rules, empty_is, above, exactly}
+use Rattle.amr_be.proofs.Rules.{rules}
+use Rattle.amr_toc.proofs.Telling.{empty_is, above, exactly}
+use Rattle.amr_toc.specs.Fitting.{misfit}
 use Rattle.amr_toc.specs.Lists.{listed, toc_at}
 use Rattle.amr_toc.specs.Table.{table_of, table_refusal}
 use Rattle.amr_be.proofs.read.accept.Goals as goal
@@ -38,7 +39,7 @@ returns-in-Some-clause-refused c =
     let none : table_refusal p 6 (bits_at octets 4 c.behind_header-bits.result.len) ≡ None = ap (table_refusal p 6) (sym b.bits) ∙ c.in-Ok.ensures.accepted in
     let table : listed c.in-Ok.toc ≡ toc_at p octets = c.in-Ok.ensures.table ∙ ap (table_of p 6) b.bits ∙ r.listed none in
     let size = r.size (listed c.in-Ok.toc) table in
-    r.unfit c.in-Some.why some none (ap (λ n. misfit n (length octets)) (sym size) ∙ sym c.misfit_of.ensures ∙ c.in-Some.is)
+    r.unfit c.in-Some.why some none (ap (λ n. misfit n (length octets)) (sym size ∙ sym c.need_of.ensures) ∙ sym c.misfit_of.ensures ∙ c.in-Some.is)
 
 pub returns-clause-accepted : goal.returns-clause-accepted
 returns-clause-accepted c =
@@ -50,7 +51,7 @@ returns-clause-accepted c =
     let none : table_refusal p 6 (bits_at octets 4 c.behind_header-bits.result.len) ≡ None = ap (table_refusal p 6) (sym b.bits) ∙ c.in-Ok.ensures.accepted in
     let table : listed c.in-Ok.toc ≡ toc_at p octets = c.in-Ok.ensures.table ∙ ap (table_of p 6) b.bits ∙ r.listed none in
     let size = r.size (listed c.in-Ok.toc) table in
-    r.none some none (sym size ∙ exactly (need_by p.codec (listed c.in-Ok.toc)) (length octets) (sym c.misfit_of.ensures ∙ c.in_default.is))
+    r.none some none (sym size ∙ sym c.need_of.ensures ∙ exactly c.need_of.result (length octets) (sym c.misfit_of.ensures ∙ c.in_default.is))
 
 pub returns-clause-table : goal.returns-clause-table
 returns-clause-table c =

@@ -1,4 +1,4 @@
-use Rattle.amr_be.proofs.Rules.{read_is}
+use Rattle.amr_toc.proofs.Telling.{read_is}
 use Rattle.amr_be.proofs.read.read_be.Goals as goal
 
 pub over-requires-clause-accepted : goal.over-requires-clause-accepted

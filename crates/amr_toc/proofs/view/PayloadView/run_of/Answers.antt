@@ -1,27 +1,16 @@
-use Rattle.std.proofs.Common.{◌<◌, ◌+◌, length, ap, sym, ◌∙◌, arith, subst}
+use Rattle.std.proofs.Common.{ap, sym, ◌∙◌, arith}
 use Rattle.amr_frame.specs.Frames.{Frame}
-use Rattle.spec_payload.specs.Reading.{entries}
-use Rattle.amr_toc.specs.Lists.{listed}
-use Rattle.amr_toc.proofs.Shown.{count_is, entries_are, lies, start_is, place_is, size_is, run_is, frame_is}
 use Rattle.amr_frame.specs.Tables.{bits_in}
+use Rattle.amr_toc.specs.Lists.{listed}
+use Rattle.amr_toc.proofs.Shown.{in_table, in_entries, size_is, frame_is}
+use Rattle.amr_toc.proofs.Standing.{begins, lies, run_is}
 use Rattle.amr_toc.proofs.view.PayloadView.run_of.Goals as goal
 
+pub start_of-requires : goal.start_of-requires
+start_of-requires c = let v = c.args.self.now in in_table v.profile v.octets.now (listed v.toc) c.args.at v.table c.requires.frame
+
 pub entry-requires : goal.entry-requires
-entry-requires c = let v = c.args.self.now in subst (λ n. c.args.at < n) (count_is v.profile v.octets.now (listed v.toc) v.valid v.packed v.accepted v.table) c.requires
-
-pub bits_before-requires : goal.bits_before-requires
-bits_before-requires c =
-    let v = c.args.self.now in
-    let h : c.args.at < length (listed v.toc) = subst (λ n. c.args.at < n) (count_is v.profile v.octets.now (listed v.toc) v.valid v.packed v.accepted v.table) c.requires in
-    omega arith
-
-pub overflow_add-start : goal.overflow_add-start
-overflow_add-start c =
-    let v = c.args.self.now in
-    let h : c.args.at < length (listed v.toc) = subst (λ n. c.args.at < n) (count_is v.profile v.octets.now (listed v.toc) v.valid v.packed v.accepted v.table) c.requires in
-    let b = v.behind ∙ start_is v.profile (length (listed v.toc)) v.packed in
-    let few = v.toc.most in
-    omega (arith, c.bits_before.ensures.most)
+entry-requires c = let v = c.args.self.now in in_table v.profile v.octets.now (listed v.toc) c.args.at v.table c.requires.frame
 
 pub invariant_of-result : goal.invariant_of-result
 invariant_of-result c =
@@ -30,12 +19,10 @@ invariant_of-result c =
     let octets = v.octets.now in
     let es = listed v.toc in
     let at = c.args.at in
-    let h : at < length es = subst (λ n. at < n) (count_is p octets es v.valid v.packed v.accepted v.table) c.requires in
-    let k : at < entries p octets = subst (λ n. at < n) (entries_are p octets es v.table) h in
-    let l = lies p octets at v.valid v.packed v.accepted k in
+    let l = lies p octets at v.valid c.requires.plain v.accepted (in_entries p octets es at v.table c.requires.frame) in
     let inside = l.inside in
-    let s = place_is p octets es v.body c.bits_before.result at v.table v.behind c.bits_before.ensures.sum in
-    let n = size_is p octets es at c.bits_of-len.result c.entry.result v.table h c.entry.ensures.entry c.bits_of-len.ensures in
+    let s = begins p octets es v.body c.start_of.result at v.table v.behind c.start_of.ensures in
+    let n = size_is p octets es at c.bits_of.result c.entry.result v.table (in_table p octets es at v.table c.requires.frame) c.entry.ensures.entry c.bits_of.ensures in
     record { within = omega arith }
 
 pub returns-clause-bits : goal.returns-clause-bits
@@ -45,11 +32,9 @@ returns-clause-bits c =
     let octets = v.octets.now in
     let es = listed v.toc in
     let at = c.args.at in
-    let h : at < length es = subst (λ n. at < n) (count_is p octets es v.valid v.packed v.accepted v.table) c.requires in
-    let k : at < entries p octets = subst (λ n. at < n) (entries_are p octets es v.table) h in
-    run_is p octets (v.body + c.bits_before.result) c.bits_of-len.result at (lies p octets at v.valid v.packed v.accepted k)
-    (place_is p octets es v.body c.bits_before.result at v.table v.behind c.bits_before.ensures.sum)
-    (size_is p octets es at c.bits_of-len.result c.entry.result v.table h c.entry.ensures.entry c.bits_of-len.ensures)
+    run_is p octets c.start_of.result c.bits_of.result at (lies p octets at v.valid c.requires.plain v.accepted (in_entries p octets es at v.table c.requires.frame))
+    (begins p octets es v.body c.start_of.result at v.table v.behind c.start_of.ensures)
+    (size_is p octets es at c.bits_of.result c.entry.result v.table (in_table p octets es at v.table c.requires.frame) c.entry.ensures.entry c.bits_of.ensures)
 
 pub returns-clause-len : goal.returns-clause-len
 returns-clause-len c =
@@ -58,7 +43,5 @@ returns-clause-len c =
     let octets = v.octets.now in
     let es = listed v.toc in
     let at = c.args.at in
-    let h : at < length es = subst (λ n. at < n) (count_is p octets es v.valid v.packed v.accepted v.table) c.requires in
-    let k : at < entries p octets = subst (λ n. at < n) (entries_are p octets es v.table) h in
-    size_is p octets es at c.bits_of-len.result c.entry.result v.table h c.entry.ensures.entry c.bits_of-len.ensures
-    ∙ ap (λ (f : Frame). bits_in p.codec f.ft) (sym (frame_is p octets at k))
+    size_is p octets es at c.bits_of.result c.entry.result v.table (in_table p octets es at v.table c.requires.frame) c.entry.ensures.entry c.bits_of.ensures
+    ∙ ap (λ (f : Frame). bits_in p.codec f.ft) (sym (frame_is p octets at (in_entries p octets es at v.table c.requires.frame)))
