@@ -16,6 +16,20 @@ use Rattle.amr_bits.proofs.Places.{number_at-octet, number_at-within, number_at-
 pub fill_step : (f : ℕ → ℕ) (xs : List ℕ) (i v : ℕ) → i < length xs → v ≡ f i → ((k : ℕ) → k < i → get_or xs k 0 ≡ f k) → (k : ℕ) → k < i + 1 → get_or (set xs i v) k 0 ≡ f k
 fill_step f xs i v l e h k q = ap (λ (x : ℕ). get_or (set xs i x) k 0) e ∙ fill_by_more f xs i 0 l h k q
 
+-- an octet of a block that is written
+pub put_block : (f : ℕ → ℕ) (xs made rest : List ℕ) (at n k : ℕ) → at ≤ length xs → length made ≡ n → at ≤ k → k < at + n → ((j : ℕ) → j < n → get_or made j 0 ≡ f (at + j)) → get_or (take at xs ++ (made ++ rest)) k 0 ≡ f k
+put_block f xs made rest at n k fits size low high h =
+    get_or-append_right (take at xs) (made ++ rest) at k 0 (length-take-le at xs fits) low
+    ∙ get_or_append_left made rest 0 (k - at) (omega (arith, size)) ∙ h (k - at) (omega arith) ∙ ap f (omega arith)
+
+-- a block more behind the octets that are copied, or over the last of them
+pub block_more : (f : ℕ → ℕ) (xs ys : List ℕ) (done at n : ℕ) → at ≤ done → ((k : ℕ) → k < done → get_or xs k 0 ≡ f k) → ((k : ℕ) → k < at → get_or ys k 0 ≡ get_or xs k 0) → ((k : ℕ) → at ≤ k → k < at + n → get_or ys k 0 ≡ f k) → (k : ℕ) → k < at + n → get_or ys k 0 ≡ f k
+block_more f xs ys done at n within old before copied k h =
+    elim (cases_lt k at) [
+      | inl front ↦ before k front ∙ old k (omega arith)
+      | inr block ↦ copied k block h
+    ]
+
 -- a number of less than five octets leaves room for one more
 pub room_above : (n v : ℕ) → n < 5 → v < 2 ^ (8 * n) → v < 2 ^ 32
 room_above zero v h l = omega (arith, l)

@@ -1,9 +1,9 @@
 -- Bits that are written behind others.
-use Rattle.std.proofs.Common.{◌≡◌, ℕ, zero, suc, ◌+◌, ◌-◌, ◌*◌, ◌/◌, ◌%◌, ◌^◌, ◌<◌, ◌≤◌, Bool, false, List, [], ◌∷◌, ◌++◌, length, take, drop, set, min, replicate, get_or, bit_or, sym, refl, ap, ◌∙◌, arith}
-use Rattle.std.proofs.lemmas.List.{append-nil, append_assoc, length-append, length-take-le, take_at, take-append-drop, take_more_set, drop-set-lt, drop_all}
+use Rattle.std.proofs.Common.{◌≡◌, ℕ, ◌+◌, ◌-◌, ◌*◌, ◌/◌, ◌%◌, ◌^◌, ◌<◌, ◌≤◌, Bool, false, List, [], ◌∷◌, ◌++◌, length, take, drop, set, min, replicate, get_or, bit_or, sym, ap, ◌∙◌, arith}
+use Rattle.std.proofs.lemmas.List.{append_assoc, length-append, length-take-le, take_at, take-append-drop, take_more_set, drop-set-lt, drop_all}
 use Rattle.std.proofs.lemmas.Nat.{or_shifted, shl_below, shr_below, shr_split, pow_below, pow-add}
 use Rattle.std.proofs.Math.Nat.{mod-eq_of_lt, add-mul, mul_assoc}
-use Rattle.amr_bits.specs.Bits.{nat, number, bits_at, number_at, octets_for, filled}
+use Rattle.amr_bits.specs.Bits.{number, bits_at, number_at, octets_for, filled}
 use Rattle.amr_bits.specs.Written.{front}
 use Rattle.amr_bits.proofs.Runs.{run-split, run-append, length-run}
 use Rattle.amr_bits.proofs.Numbers.{number-append}

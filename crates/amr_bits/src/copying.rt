@@ -2,6 +2,9 @@ ghost use Rattle.std.specs.Prelude.{◌≡◌, ℕ, ◌+◌, ◌*◌, ◌/◌, �
 ghost use Rattle.std.specs.List.{range_with_len};
 ghost use Rattle.amr_bits.specs.Bits.{number_at, octets_for};
 
+/// How many octets are copied at once: as many as one instruction works on.
+const BLOCK: usize = 16;
+
 /// How many octets hold so many bits.
 pub fn octets_needed(bits: usize) -> usize
     ensures { result ≡ octets_for bits }
@@ -46,9 +49,68 @@ fn copy_shifted(octets: &[u8], shift: u32, out: &mut [u8])
     requires fits { length out.old < length octets.now }
     ensures { out.new ≡ map (λ k. number_at octets.now (8 * k + shift) 8) (range_with_len 0 (length out.old)) }
 {
+    if out.len() < BLOCK {
+        copy_each(octets, shift, out);
+    } else {
+        copy_blocks(octets, shift, out);
+    }
+}
+
+/// Copies octets that stand across two each, one by one.
+fn copy_each(octets: &[u8], shift: u32, out: &mut [u8])
+    requires above { 0 < shift }
+    requires below { shift < 8 }
+    requires fits { length out.old < length octets.now }
+    ensures { out.new ≡ map (λ k. number_at octets.now (8 * k + shift) 8) (range_with_len 0 (length out.old)) }
+{
     for at in 0..out.len() {
         out[at] = across(octets[at], octets[at + 1], shift);
     }
+}
+
+/// Copies octets that stand across two each, a block at a time; the last block may lie over the one before it.
+fn copy_blocks(octets: &[u8], shift: u32, out: &mut [u8])
+    requires above { 0 < shift }
+    requires below { shift < 8 }
+    requires block { 16 ≤ length out.old }
+    requires fits { length out.old < length octets.now }
+    ensures { out.new ≡ map (λ k. number_at octets.now (8 * k + shift) 8) (range_with_len 0 (length out.old)) }
+{
+    let last = out.len() - BLOCK;
+    let mut at = 0;
+    while at < last {
+        copy_block(octets, shift, out, at);
+        at += BLOCK;
+    }
+    copy_block(octets, shift, out, last);
+}
+
+/// Copies the block from octet `at` on, and leaves the octets before it.
+fn copy_block(octets: &[u8], shift: u32, out: &mut [u8], at: usize)
+    requires above { 0 < shift }
+    requires below { shift < 8 }
+    requires block { at + 16 ≤ length out.old }
+    requires fits { length out.old < length octets.now }
+    ensures copied { (k : ℕ) → at ≤ k → k < at + 16 → slice_index out.new k ≡ number_at octets.now (8 * k + shift) 8 }
+    ensures before { (k : ℕ) → k < at → slice_index out.new k ≡ slice_index out.old k }
+{
+    out[at..at + BLOCK].copy_from_slice(&block_at(octets, shift, at));
+}
+
+/// The block from octet `at` on. It is made as a whole before any of it is written, so that the compiler need not ask
+/// whether what is written lies over what is read, and takes all octets at once.
+fn block_at(octets: &[u8], shift: u32, at: usize) -> [u8; BLOCK]
+    requires above { 0 < shift }
+    requires below { shift < 8 }
+    requires fits { at + 16 < length octets.now }
+    ensures { (k : ℕ) → k < 16 → slice_index result k ≡ number_at octets.now (8 * (at + k) + shift) 8 }
+{
+    let mut made = [0; BLOCK];
+    for step in 0..BLOCK {
+        let place = at + step;
+        made[step] = across(octets[place], octets[place + 1], shift);
+    }
+    made
 }
 
 /// The octet that begins at bit `shift` of the first of two octets.

@@ -1,5 +1,5 @@
 -- What a job asks.
-use Rattle.std.specs.Prelude.{◌≡◌, ◌≤◌, ◌^◌, false}
+use Rattle.std.specs.Prelude.{◌≡◌, ◌≤◌, ◌^◌}
 use Rattle.amr_gateway.specs.declared.job.RecordJob.{RecordJob}
 use Rattle.amr_playout.specs.Plans.{IsPlan, rules_in}
 use Rattle.spec_record.specs.Recording.{Recording}
@@ -8,9 +8,8 @@ use Rattle.spec_record.specs.Recording.{Recording}
 abbrev pub recording_of : RecordJob → Recording
 recording_of job = record { profile = job.plan.profile; asked = job.pt; rules = rules_in job.plan }
 
--- the jobs that are served: those of a valid plan for a bandwidth-efficient format, of at most 2^40 octets
+-- the jobs that are served: those of a valid plan, of at most 2^40 octets
 pub record IsServed (job : RecordJob) : Type 0 where
   pub plan : IsPlan job.plan
-  pub packed : job.plan.profile.octet_aligned ≡ false
   pub some : 1 ≤ job.limit
   pub most : job.limit ≤ 2 ^ 40

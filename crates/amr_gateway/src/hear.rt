@@ -15,8 +15,8 @@ ghost use Rattle.spec_session.specs.Session.{accepted};
 
 use crate::job::RecordJob;
 use crate::tally::Heard;
-use amr_be::read_be;
 use amr_io::{Failed, Sink};
+use amr_payload::read_payload;
 use amr_playout::{Offered, Receiver};
 use amr_store::StoreWriter;
 use amr_toc::PayloadView;
@@ -69,7 +69,7 @@ pub fn hear<O: Sink>(
     if !is_asked(job.pt, rtp.payload_type()) {
         return Ok(Heard::OtherType);
     }
-    let Ok(payload) = read_be(&job.plan.profile, rtp.payload()) else {
+    let Ok(payload) = read_payload(&job.plan.profile, rtp.payload()) else {
         return Ok(Heard::NoPayload);
     };
     offer(job, receiver, &rtp, &payload, output)

@@ -4,6 +4,7 @@ pub mod Cells
 pub mod Counts
 pub mod Holding
 pub mod Late
+pub mod Nearness
 pub mod Out
 pub mod Payloads
 pub mod Plans

@@ -56,12 +56,14 @@ impl Frames for Single {
     }
 }
 
-// A frame of this type whose bits are all 0.
-fn zeros(ft: u8) -> Single
+// A frame of this type whose first 16 bits are a number, and whose others are 0.
+fn frame(ft: u8, number: u16) -> Single
     requires type_exists { ft ≤ 15 }
     requires not_reserved { is_reserved Amr ft ≡ false }
 {
-    let octets = [0u8; 60];
+    let mut octets = [0u8; 60];
+    octets[0] = (number / 256) as u8;
+    octets[1] = (number % 256) as u8;
     match BitSlice::of(&octets, 0, bits_of(Codec::Amr, ft)) {
         Some(bits) => Single {
             cell: Cell::from_bits(Codec::Amr, ft, true, bits),
@@ -82,9 +84,23 @@ fn head(sequence: u16, timestamp: u32) -> Head
     }
 }
 
-#[test]
-fn the_first_to_arrive_need_not_be_the_earliest(rt: HostRuntime) -> Result<(), Fail> {
-    let plan = Plan {
+// A window of three blocks.
+fn plan() -> Plan
+    ensures { result ≡ record {
+      profile = record {
+        codec = Amr;
+        channels = 1;
+        octet_aligned = false;
+        crc = false;
+        sorting = false;
+        interleaving = None;
+        max_blocks = 3;
+      };
+      window = 3;
+      reach = 100;
+    } }
+{
+    Plan {
         profile: Profile {
             codec: Codec::Amr,
             channels: 1,
@@ -96,21 +112,26 @@ fn the_first_to_arrive_need_not_be_the_earliest(rt: HostRuntime) -> Result<(), F
         },
         window: 3,
         reach: 100,
-    };
+    }
+}
+
+#[test]
+fn the_first_to_arrive_need_not_be_the_earliest(rt: HostRuntime) -> Result<(), Fail> {
+    let plan = plan();
     assert!(rt; plan.check().is_ok());
     let mut receiver = Receiver::create(rt.alloc(), plan)?;
     let mut out = MemoryBlocks::create(rt.alloc(), Codec::Amr, 1, 8)?;
-    let Ok(first) = receiver.take(&head(2, 320), &zeros(2), &mut out) else {
+    let Ok(first) = receiver.take(&head(2, 320), &frame(2, 0), &mut out) else {
         panic!(rt; "the first packet is taken")
     };
     assert_eq!(rt; (first.late, first.copies, first.released), (0, 0, 0));
     assert_eq!(rt; receiver.room(), 3);
-    let Ok(second) = receiver.take(&head(0, 0), &zeros(7), &mut out) else {
+    let Ok(second) = receiver.take(&head(0, 0), &frame(7, 0), &mut out) else {
         panic!(rt; "an earlier packet is taken")
     };
     assert_eq!(rt; (second.late, second.copies, second.released), (0, 0, 0));
     assert_eq!(rt; receiver.room(), 3);
-    let Ok(third) = receiver.take(&head(1, 160), &zeros(4), &mut out) else {
+    let Ok(third) = receiver.take(&head(1, 160), &frame(4, 0), &mut out) else {
         panic!(rt; "a packet between is taken")
     };
     assert_eq!(rt; (third.late, third.copies, third.released), (0, 0, 0));
@@ -123,8 +144,36 @@ fn the_first_to_arrive_need_not_be_the_earliest(rt: HostRuntime) -> Result<(), F
     assert_eq!(rt; receiver.counts().blocks, 3);
     let cells = out.blocks();
     assert_eq!(rt; cells.len(), 3);
-    assert_eq!(rt; cells[0], zeros(7).cell);
-    assert_eq!(rt; cells[1], zeros(4).cell);
-    assert_eq!(rt; cells[2], zeros(2).cell);
+    assert_eq!(rt; cells[0], frame(7, 0).cell);
+    assert_eq!(rt; cells[1], frame(4, 0).cell);
+    assert_eq!(rt; cells[2], frame(2, 0).cell);
+    Ok(())
+}
+
+#[test]
+fn threes_with_the_last_first_go_out_in_their_order(rt: HostRuntime) -> Result<(), Fail> {
+    let plan = plan();
+    assert!(rt; plan.check().is_ok());
+    let mut receiver = Receiver::create(rt.alloc(), plan)?;
+    let mut out = MemoryBlocks::create(rt.alloc(), Codec::Amr, 1, 1002)?;
+    for at in 0..1002u16 {
+        // 2, 0, 1, 5, 3, 4, .. 1001, 999, 1000
+        let block = at / 3 * 3 + (at + 2) % 3;
+        let packet = head(block, 160 * u32::from(block));
+        let Ok(taken) = receiver.take(&packet, &frame(7, block), &mut out) else {
+            panic!(rt; "packet {at} is taken")
+        };
+        assert!(rt; taken.late == 0);
+        assert!(rt; taken.copies == 0);
+    }
+    let Ok(_) = receiver.finish(&mut out) else {
+        panic!(rt; "the sink has room")
+    };
+    assert_eq!(rt; receiver.counts().blocks, 1002);
+    let cells = out.blocks();
+    assert_eq!(rt; cells.len(), 1002);
+    for at in 0..1002u16 {
+        assert_eq!(rt; cells[usize::from(at)], frame(7, at).cell, "block {at}");
+    }
     Ok(())
 }

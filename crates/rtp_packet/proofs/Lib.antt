@@ -5,3 +5,8 @@ pub mod Padded
 pub mod Ends
 pub mod Refusals
 pub mod Causes
+pub mod Small
+pub mod Spelled
+pub mod Respelled
+pub mod Marked
+pub mod Grammar

@@ -4,6 +4,7 @@ pub mod Lent
 pub mod Cause
 pub mod View
 pub mod Written
+pub mod Fields
 pub use Rattle.spec_packet.specs.Log
 pub use Rattle.spec_packet.specs.Rtp
 pub use Rattle.spec_packet.specs.RtpReading

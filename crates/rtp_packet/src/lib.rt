@@ -3,6 +3,7 @@
 #![tactic(auto)]
 
 mod fields;
+mod fit;
 mod head;
 mod header;
 mod law;
@@ -14,7 +15,9 @@ mod view;
 mod write;
 
 pub use fields::RtpFields;
-pub use law::octets_tell_one_answer;
+pub use law::{
+    octets_tell_one_answer, reads_its_grammar, reads_what_is_written, writes_what_is_read,
+};
 pub use log_reader::LogReader;
 pub use next::Next;
 pub use read::read_rtp;

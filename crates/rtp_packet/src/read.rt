@@ -1,7 +1,9 @@
-ghost use Rattle.std.specs.Prelude.{◌≡◌, ◌↔◌, ◌+◌, ◌*◌, ◌≤◌, ◌<◌, ◌&&◌, ◌||◌, nat_eq, nat_lt, length, IsOk, IfOk, IfErr, is_none, IfSome};
+ghost use Rattle.std.specs.Prelude.{◌≡◌, ◌↔◌, ◌+◌, ◌*◌, ◌≤◌, ◌<◌, ◌&&◌, ◌||◌, nat_eq, nat_lt, length, IsOk, IfOk, IfErr, is_none, IfSome, Ok};
+ghost use Rattle.spec_packet.specs.Rtp.{IsPacket, RtpPacket};
 ghost use Rattle.spec_packet.specs.RtpReading.{rtp_of, rtp_refusal, packet_at, padding_in, is_padded as has_padding, is_extended as has_extension, sources_end as end_of_sources, header_end as end_of_header};
 ghost use Rattle.rtp_packet.specs.View.{packet, read_of};
 
+use crate::fit::are_octets;
 use crate::header::{is_extended, is_padded, number_16, source_count, version_in};
 use crate::view::RtpView;
 use spec_packet::RtpRefusal;
@@ -16,7 +18,9 @@ pub fn read_rtp(octets: &[u8]) -> Result<RtpView<'_>, RtpRefusal>
     ensures fields { IfOk result (λ view. packet view ≡ packet_at octets.now) }
     ensures refusal { IfErr result (λ why. rtp_refusal octets.now ≡ Some why) }
     ensures reads { read_of result ≡ rtp_of octets.now }
+    ensures grammar { (p : RtpPacket) → (read_of result ≡ Ok p) ↔ IsPacket p octets.now }
 {
+    are_octets(octets);
     if octets.len() < 12 {
         return Err(RtpRefusal::Short { have: octets.len() });
     }

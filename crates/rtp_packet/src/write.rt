@@ -1,8 +1,10 @@
-ghost use Rattle.std.specs.Prelude.{◌≡◌, ℕ, List, ◌+◌, ◌≤◌, ◌++◌, length, take, flat_map, option_map, IfSome};
+ghost use Rattle.std.specs.Prelude.{◌≡◌, ℕ, List, ◌+◌, ◌≤◌, ◌++◌, length, take, flat_map, option_map, IfSome, Ok};
+ghost use Rattle.spec_packet.specs.RtpReading.{rtp_of};
 ghost use Rattle.rtp_packet.specs.View.{extension_of};
 ghost use Rattle.rtp_packet.specs.Written.{octets_32, fixed_octets, extension_octets, packet_of, written, packet_size, extension_size as size_of_extension, IsWords};
 
 use crate::fields::RtpFields;
+use crate::fit::fit_places;
 use crate::put::{four_octets, put, put_extension, put_padding, put_sources, two_octets};
 
 /// How many octets an RTP packet has with these fields and a payload of `payload_len` octets.
@@ -19,15 +21,18 @@ pub fn size_rtp(fields: &RtpFields<'_>, payload_len: usize) -> usize
 }
 
 /// Writes an RTP packet (RFC 3550, 5.1 and 5.3.1) into `out`, which has exactly its size. P is 1
-/// exactly where there is padding; the padding octets but the last are 0.
+/// exactly where there is padding; the padding octets but the last are 0. Read again it is the same
+/// packet.
 pub fn write_rtp(fields: &RtpFields<'_>, payload: &[u8], out: &mut [u8])
     requires payload_type { fields.now.payload_type ≤ 127 }
     requires sources { length fields.now.sources.now ≤ 15 }
     requires extension { IfSome fields.now.extension (λ e. IsWords e.1.now) }
     requires payload { length payload.now ≤ 65535 }
     requires size { length out.old ≡ packet_size fields.now (length payload.now) }
-    ensures { out.new ≡ written (packet_of fields.now payload.now) }
+    ensures octets { out.new ≡ written (packet_of fields.now payload.now) }
+    ensures reads { rtp_of out.new ≡ Ok (packet_of fields.now payload.now) }
 {
+    fit_places(fields, payload);
     let fixed = fixed_header(fields);
     let fixed_end = put(out, 0, &fixed);
     let sources_end = put_sources(out, fixed_end, fields.sources);

@@ -74,38 +74,38 @@ returns-then-not-is_asked-clause-accepted g c = passed_takes c.args.job.now c.ar
 pub returns-then-not-is_asked-clause-same : goal.returns-then-not-is_asked-clause-same
 returns-then-not-is_asked-clause-same g c = g.met.O.Sink.reflexive c.args.output.now
 
-pub read_be-requires-clause-valid : goal.read_be-requires-clause-valid
-read_be-requires-clause-valid g c = format_valid c.args.job.now.plan c.requires.served.plan
+pub read_payload-requires-clause-valid : goal.read_payload-requires-clause-valid
+read_payload-requires-clause-valid g c = format_valid c.args.job.now.plan c.requires.served.plan
 
-no_payload : (g : Over) (c : goal.In_default-read_be g) → Meets (recording_of c.args.job.now) c.args.octets.now false false false true 0
+no_payload : (g : Over) (c : goal.In_default-read_payload g) → Meets (recording_of c.args.job.now) c.args.octets.now false false false true 0
 no_payload g c =
-    no_payload_met (recording_of c.args.job.now) c.args.octets.now (packet c.in-Ok.rtp) c.in_default-read_be.field-0 (some_octets c.args.octets.now (λ e. absurd (grind (arith, c.is_empty.ensures, c.if-is_empty.false, e)))) (sym c.in-Ok.ensures.reads)
+    no_payload_met (recording_of c.args.job.now) c.args.octets.now (packet c.in-Ok.rtp) c.in_default-read_payload.field-0 (some_octets c.args.octets.now (λ e. absurd (grind (arith, c.is_empty.ensures, c.if-is_empty.false, e)))) (sym c.in-Ok.ensures.reads)
     (ap (is_asked c.args.job.now.pt) (sym c.payload_type.ensures) ∙ sym c.is_asked.ensures ∙ c.if-not-is_asked.false)
-    (ap (payload_refusal c.args.job.now.plan.profile) (sym c.payload.ensures) ∙ c.in_default-read_be.ensures.refused.first)
+    (ap (payload_refusal c.args.job.now.plan.profile) (sym c.payload.ensures) ∙ c.in_default-read_payload.ensures.refused.first)
 
-pub returns-in_default-read_be-clause-heard : goal.returns-in_default-read_be-clause-heard
-returns-in_default-read_be-clause-heard g c = passed_hears c.args.job.now c.args.receiver.now c.args.octets.now (no_payload g c).packets_are
+pub returns-in_default-read_payload-clause-heard : goal.returns-in_default-read_payload-clause-heard
+returns-in_default-read_payload-clause-heard g c = passed_hears c.args.job.now c.args.receiver.now c.args.octets.now (no_payload g c).packets_are
 
-pub returns-in_default-read_be-clause-out : goal.returns-in_default-read_be-clause-out
-returns-in_default-read_be-clause-out g c = passed_out c.args.job.now c.args.receiver.now c.args.octets.now _ (no_payload g c).packets_are
+pub returns-in_default-read_payload-clause-out : goal.returns-in_default-read_payload-clause-out
+returns-in_default-read_payload-clause-out g c = passed_out c.args.job.now c.args.receiver.now c.args.octets.now _ (no_payload g c).packets_are
 
-pub returns-in_default-read_be-clause-told : goal.returns-in_default-read_be-clause-told
-returns-in_default-read_be-clause-told g c = no_payload g c
+pub returns-in_default-read_payload-clause-told : goal.returns-in_default-read_payload-clause-told
+returns-in_default-read_payload-clause-told g c = no_payload g c
 
-pub returns-in_default-read_be-clause-accepted : goal.returns-in_default-read_be-clause-accepted
-returns-in_default-read_be-clause-accepted g c = passed_takes c.args.job.now c.args.receiver.now c.args.octets.now NoPayload refl (no_payload g c).packets_are
+pub returns-in_default-read_payload-clause-accepted : goal.returns-in_default-read_payload-clause-accepted
+returns-in_default-read_payload-clause-accepted g c = passed_takes c.args.job.now c.args.receiver.now c.args.octets.now NoPayload refl (no_payload g c).packets_are
 
-pub returns-in_default-read_be-clause-same : goal.returns-in_default-read_be-clause-same
-returns-in_default-read_be-clause-same g c = g.met.O.Sink.reflexive c.args.output.now
+pub returns-in_default-read_payload-clause-same : goal.returns-in_default-read_payload-clause-same
+returns-in_default-read_payload-clause-same g c = g.met.O.Sink.reflexive c.args.output.now
 
-value : (g : Over) (c : goal.After-offer g) → read_as c.args.job.now.plan.profile (packet c.in-Ok.rtp).payload ≡ Ok (viewed c.in-Ok-read_be.payload)
-value g c = ap (read_as c.args.job.now.plan.profile) (sym c.payload.ensures) ∙ c.in-Ok-read_be.ensures.value.value
+value : (g : Over) (c : goal.After-offer g) → read_as c.args.job.now.plan.profile (packet c.in-Ok.rtp).payload ≡ Ok (viewed c.in-Ok-read_payload.payload)
+value g c = ap (read_as c.args.job.now.plan.profile) (sym c.payload.ensures) ∙ c.in-Ok-read_payload.ensures.value.value
 
 asked : (g : Over) (c : goal.After-offer g) → is_asked c.args.job.now.pt (packet c.in-Ok.rtp).payload_type ≡ true
 asked g c = ap (is_asked c.args.job.now.pt) (sym c.payload_type.ensures) ∙ sym c.is_asked.ensures ∙ c.if-not-is_asked.false
 
-is_packet : (g : Over) (c : goal.After-offer g) → packet_of c.args.job.now.plan.profile c.args.job.now.pt c.args.octets.now ≡ Some (said_by (packet c.in-Ok.rtp) (viewed c.in-Ok-read_be.payload))
-is_packet g c = packet_is (recording_of c.args.job.now) c.args.octets.now (packet c.in-Ok.rtp) (viewed c.in-Ok-read_be.payload) (sym c.in-Ok.ensures.reads) (asked g c) (value g c)
+is_packet : (g : Over) (c : goal.After-offer g) → packet_of c.args.job.now.plan.profile c.args.job.now.pt c.args.octets.now ≡ Some (said_by (packet c.in-Ok.rtp) (viewed c.in-Ok-read_payload.payload))
+is_packet g c = packet_is (recording_of c.args.job.now) c.args.octets.now (packet c.in-Ok.rtp) (viewed c.in-Ok-read_payload.payload) (sym c.in-Ok.ensures.reads) (asked g c) (value g c)
 
 pub returns-clause-heard : goal.returns-clause-heard
 returns-clause-heard g c = packet_hears c.args.job.now c.args.receiver.now c.offer.new.receiver c.args.octets.now _ c.offer.result c.offer.ensures.heard (is_packet g c)
@@ -116,8 +116,8 @@ returns-clause-out g c = packet_out c.args.job.now c.args.receiver.now c.args.oc
 pub returns-clause-told : goal.returns-clause-told
 returns-clause-told g c =
     packet_told c.args.job.now c.args.octets.now c.offer.result c.offer.ensures.packet
-    (packet_met (recording_of c.args.job.now) c.args.octets.now (packet c.in-Ok.rtp) (viewed c.in-Ok-read_be.payload) (some_octets c.args.octets.now (λ e. absurd (grind (arith, c.is_empty.ensures, c.if-is_empty.false, e)))) (sym c.in-Ok.ensures.reads) (asked g c)
-    (ap (payload_refusal c.args.job.now.plan.profile) (sym c.payload.ensures) ∙ c.in-Ok-read_be.ensures.value.none) (value g c))
+    (packet_met (recording_of c.args.job.now) c.args.octets.now (packet c.in-Ok.rtp) (viewed c.in-Ok-read_payload.payload) (some_octets c.args.octets.now (λ e. absurd (grind (arith, c.is_empty.ensures, c.if-is_empty.false, e)))) (sym c.in-Ok.ensures.reads) (asked g c)
+    (ap (payload_refusal c.args.job.now.plan.profile) (sym c.payload.ensures) ∙ c.in-Ok-read_payload.ensures.value.none) (value g c))
 
 pub returns-clause-accepted : goal.returns-clause-accepted
 returns-clause-accepted g c = packet_takes c.args.job.now c.args.receiver.now c.args.octets.now _ c.offer.result c.offer.ensures.accepted (is_packet g c)

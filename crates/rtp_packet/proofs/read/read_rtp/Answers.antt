@@ -1,6 +1,7 @@
 use Rattle.std.proofs.Common.{◌≡◌, ℕ, ◌+◌, ◌*◌, length, true, false, Some, None, Ok, sym, ap, ◌∙◌, refl}
 use Rattle.spec_packet.specs.RtpReading.{rtp_refusal, packet_at, is_padded, sources_end, header_end, padding_in}
 use Rattle.spec_packet.specs.declared.refusal.RtpRefusal.TheVariants as why
+use Rattle.rtp_packet.proofs.Grammar.{by_grammar}
 use Rattle.rtp_packet.proofs.Refusals.{IsHeader, short, other_version, few_sources, left_rules, same_padded, too_padded, refused, taken, not_accepted}
 use Rattle.rtp_packet.proofs.read.read_rtp.Goals as goal
 
@@ -68,3 +69,21 @@ returns-clause-accepted c = (λ t. none c, λ n. refl)
 
 pub returns-clause-reads : goal.returns-clause-reads
 returns-clause-reads c = ap (λ octets. Ok (packet_at octets)) c.over.ensures ∙ taken c.args.octets.now (none c)
+
+pub returns-then-octets-lt12-clause-grammar : goal.returns-then-octets-lt12-clause-grammar
+returns-then-octets-lt12-clause-grammar c = by_grammar c.args.octets.now _ c.are_octets.ensures (returns-then-octets-lt12-clause-reads c)
+
+pub returns-then-version-ne2-clause-grammar : goal.returns-then-version-ne2-clause-grammar
+returns-then-version-ne2-clause-grammar c = by_grammar c.args.octets.now _ c.are_octets.ensures (returns-then-version-ne2-clause-reads c)
+
+pub returns-then-octets-sources_end-clause-grammar : goal.returns-then-octets-sources_end-clause-grammar
+returns-then-octets-sources_end-clause-grammar c = by_grammar c.args.octets.now _ c.are_octets.ensures (returns-then-octets-sources_end-clause-reads c)
+
+pub returns-in_default-clause-grammar : goal.returns-in_default-clause-grammar
+returns-in_default-clause-grammar c = by_grammar c.args.octets.now _ c.are_octets.ensures (returns-in_default-clause-reads c)
+
+pub returns-in_default-padding_of-clause-grammar : goal.returns-in_default-padding_of-clause-grammar
+returns-in_default-padding_of-clause-grammar c = by_grammar c.args.octets.now _ c.are_octets.ensures (returns-in_default-padding_of-clause-reads c)
+
+pub returns-clause-grammar : goal.returns-clause-grammar
+returns-clause-grammar c = by_grammar c.args.octets.now _ c.are_octets.ensures (returns-clause-reads c)

@@ -1,5 +1,5 @@
-use Rattle.std.proofs.Common.{◌≡◌, ℕ, ◌+◌, ◌-◌, ◌*◌, ◌/◌, ◌++◌, length, arith, sym, ap, ◌∙◌}
-use Rattle.amr_bits.specs.Bits.{nat, bits_at}
+use Rattle.std.proofs.Common.{◌-◌, ◌++◌, arith, ap, ◌∙◌}
+use Rattle.amr_bits.specs.Bits.{bits_at}
 use Rattle.amr_bits.proofs.Places.{bits-four}
 use Rattle.amr_bits.specs.Written.{front}
 use Rattle.amr_bits.proofs.writer.BitWriter.put.Goals as goal

@@ -3,7 +3,7 @@ use Rattle.std.proofs.lemmas.List.FromFn.{fill_by_all}
 use Rattle.amr_bits.specs.Bits.{number_at}
 use Rattle.amr_bits.proofs.Places.{number_at-across}
 use Rattle.amr_bits.proofs.Copied.{fill_step}
-use Rattle.amr_bits.proofs.copying.copy_shifted.Goals as goal
+use Rattle.amr_bits.proofs.copying.copy_each.Goals as goal
 
 pub loop-at-preserved : goal.loop-at-preserved
 loop-at-preserved c =
