@@ -11,7 +11,6 @@ use Rattle.amr_cli.specs.declared.status.Status.{Status}
 use Rattle.amr_cli.specs.declared.status.Status.TheVariants as status
 use Rattle.amr_gateway.specs.Ends.{FaultsOf, IsWhole}
 use Rattle.amr_gateway.specs.Jobs.{recording_of}
-use Rattle.amr_gateway.specs.Recorded.{Recorded}
 use Rattle.amr_gateway.specs.declared.job.RecordJob.{RecordJob}
 use Rattle.amr_gateway.specs.declared.report.RunEnd.{RunEnd}
 use Rattle.amr_gateway.specs.declared.report.RunEnd.TheVariants as run

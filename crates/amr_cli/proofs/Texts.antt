@@ -1,15 +1,12 @@
 -- The notes of a run, by what it did.
-use Rattle.std.proofs.Common.{◌≡◌, ℕ, Bool, true, false, cond, List, [], ◌∷◌, ◌++◌, length, refl, sym, ap, ◌∙◌, subst, Option, inl, inr, ◌⊎◌}
+use Rattle.std.proofs.Common.{◌≡◌, ℕ, Bool, true, false, cond, List, [], ◌∷◌, ◌++◌, length, refl, sym, ap, ◌∙◌, subst, Option, inl, inr}
 use Rattle.std.specs.Prelude.{nat_lt}
 use Rattle.std.specs.Io.KnownBytes.{Appends}
 use Rattle.std.proofs.lemmas.List.{append-nil}
 use Rattle.amr_cli.specs.Noted.{Noted, line_for, line_of, lines_of, notes_of, text_of, told_of}
-use Rattle.amr_cli.specs.Statuses.{EndsAs, status_for}
-use Rattle.amr_cli.specs.declared.status.Status.{Status}
-use Rattle.amr_cli.specs.declared.status.Status.TheVariants as status
+use Rattle.amr_cli.specs.Statuses.{status_for}
 use Rattle.amr_gateway.specs.Ends.{IsWhole, run_end}
 use Rattle.amr_gateway.specs.Recorded.{Recorded}
-use Rattle.amr_gateway.specs.Tallies.{counts_in}
 use Rattle.amr_gateway.specs.declared.job.RecordJob.{RecordJob}
 use Rattle.amr_gateway.specs.declared.report.RunEnd.{RunEnd}
 use Rattle.amr_gateway.specs.declared.report.RunEnd.TheVariants as run
@@ -17,7 +14,6 @@ use Rattle.amr_gateway.specs.declared.report.RunReport.{RunReport}
 use Rattle.amr_io.specs.Fault.{Rose}
 use Rattle.amr_notes.specs.Lines.{last_line, notes_text, record_line}
 use Rattle.amr_notes.specs.Written.{AppendsFront}
-use Rattle.amr_notes.specs.declared.counts.Counts.{Counts}
 use Rattle.amr_notes.specs.declared.last.LastLine.TheVariants as line
 use Rattle.spec_record.specs.Recording as recording
 use Rattle.spec_record.specs.Recording.{end_of, rest_of}

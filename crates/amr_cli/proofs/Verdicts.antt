@@ -1,5 +1,5 @@
 -- Which end of a run a status tells.
-use Rattle.std.proofs.Common.{◌≡◌, ℕ, refl, sym, ap, ◌∙◌, inl, inr, ◌⊎◌}
+use Rattle.std.proofs.Common.{◌≡◌, ℕ, refl, sym, ◌∙◌, inl, inr, ◌⊎◌}
 use Rattle.amr_cli.specs.Statuses.{EndsAs, blamed_for, status_for}
 use Rattle.amr_cli.specs.declared.status.Status.{Status}
 use Rattle.amr_cli.specs.declared.status.Status.TheVariants.{Done, Usage, ReadFault, WriteFault}

@@ -5,32 +5,57 @@ use std::alloc::{AllocError, Global};
 use std::process::Abort;
 use std::test::Fail;
 
-// A log of one record: its length, an RTP header of version 2 with payload type 96, sequence number 0, timestamp 0 and SSRC 0,
-// and a payload of these octets, behind which zeros stand.
-fn log_of(alloc: Global, length: u8, payload: &[u8], zeros: usize) -> Result<Vec<u8>, AllocError> {
-    let mut log = Vec::from_slice(
-        alloc,
-        &[0, length, 0x80, 0x60, 0, 0, 0, 0, 0, 0, 0, 0, 0, 0],
-    )?;
-    for octet in payload {
-        log.push(*octet)?;
+// Octets by parts: some octets, and so many zeros behind them.
+type Parts<'a> = &'a [(&'a [u8], u16)];
+
+fn join(alloc: Global, parts: Parts<'_>) -> Result<Vec<u8>, AllocError> {
+    let mut all = Vec::new(alloc);
+    for (octets, zeros) in parts {
+        all.extend_from_slice(octets)?;
+        for _ in 0..*zeros {
+            all.push(0)?;
+        }
     }
-    for _ in 0..zeros {
-        log.push(0)?;
+    Ok(all)
+}
+
+// An RTP packet of version 2 with payload type 96 and no marker.
+#[derive(Clone, Copy)]
+struct Packet<'a> {
+    sequence: u16,
+    timestamp: u32,
+    ssrc: u32,
+    payload: Parts<'a>,
+}
+
+// Appends the record of a packet.
+fn record(log: &mut Vec<u8>, packet: &Packet<'_>, payload: &[u8]) -> Result<(), AllocError> {
+    let length = payload.len().min(999) as u16 + 12;
+    log.extend_from_slice(&length.to_be_bytes())?;
+    log.extend_from_slice(&[0x80, 0x60])?;
+    log.extend_from_slice(&packet.sequence.to_be_bytes())?;
+    log.extend_from_slice(&packet.timestamp.to_be_bytes())?;
+    log.extend_from_slice(&packet.ssrc.to_be_bytes())?;
+    log.extend_from_slice(payload)
+}
+
+fn log_of(alloc: Global, packets: &[Packet<'_>]) -> Result<Vec<u8>, AllocError> {
+    let mut log = Vec::new(alloc);
+    for packet in packets {
+        let payload = join(alloc, packet.payload)?;
+        record(&mut log, packet, &payload)?;
     }
     Ok(log)
 }
 
-// The storage file with these octets behind its header, and zeros behind them.
-fn file_of(alloc: Global, octets: &[u8], zeros: usize) -> Result<Vec<u8>, AllocError> {
-    let mut file = Vec::from_slice(alloc, b"#!AMR\n")?;
-    for octet in octets {
-        file.push(*octet)?;
+// A packet of the one source.
+fn at<'a>(sequence: u16, timestamp: u32, payload: Parts<'a>) -> Packet<'a> {
+    Packet {
+        sequence,
+        timestamp,
+        ssrc: 0,
+        payload,
     }
-    for _ in 0..zeros {
-        file.push(0)?;
-    }
-    Ok(file)
 }
 
 fn words_of(alloc: Global, line: &str) -> Result<Vec<String>, AllocError> {
@@ -41,112 +66,444 @@ fn words_of(alloc: Global, line: &str) -> Result<Vec<String>, AllocError> {
     Ok(words)
 }
 
-// Runs these words over the log in pieces of each size, and compares the status and the output; the notes get nothing.
+const RECORD: &str = "record --codec AMR";
+
+// Room for the longest file here.
+const ROOM: usize = 46_000;
+
+// Runs these words over the log in pieces of each size, and compares the status, the file and the notes.
 fn expect(
     rt: &(impl Abort + Alloc<A = Global>),
     line: &str,
     log: &[u8],
     status: Status,
-    file: &[u8],
+    file: Parts<'_>,
+    notes: &str,
 ) -> Result<(), Fail> {
     let words = words_of(rt.alloc(), line)?;
-    for cut in [1usize, 2, 13, 45, 999] {
+    let wanted = join(rt.alloc(), file)?;
+    for cut in [1usize, 2, 13, 45, 99_999] {
         let mut input = MemorySource::create(rt.alloc(), log, cut, &[])?;
-        let mut output = MemorySink::create(rt.alloc(), 999, cut, &[])?;
-        let mut notes = MemorySink::create(rt.alloc(), 999, cut, &[])?;
-        let ended = run_gateway(rt.alloc(), &words, &mut input, &mut output, &mut notes);
-        assert_eq!(rt; ended, status, "at {cut}");
-        assert_eq!(rt; output.octets(), file, "at {cut}");
-        assert_eq!(rt; notes.octets(), [].as_slice(), "at {cut}");
+        let mut output = MemorySink::create(rt.alloc(), ROOM, cut, &[])?;
+        let mut told = MemorySink::create(rt.alloc(), 999, cut, &[])?;
+        let ended = run_gateway(rt.alloc(), &words, &mut input, &mut output, &mut told);
+        assert_eq!(rt; ended, status, "{line} at {cut}");
+        assert_eq!(rt; output.octets(), wanted.as_slice(), "{line} at {cut}");
+        assert_eq!(rt; told.octets(), notes.as_bytes(), "{line} at {cut}");
     }
     Ok(())
 }
 
-const RECORD: &str = "record --codec AMR";
+// The header of a file of AMR frames of one channel.
+const HEAD: &[u8] = b"#!AMR\n";
 
 #[test]
-fn an_empty_log_gives_the_header(rt: HostRuntime) -> Result<(), Fail> {
-    expect(&rt, RECORD, &[], Status::Done, b"#!AMR\n")
+fn a_packet_gives_its_frame(rt: HostRuntime) -> Result<(), Fail> {
+    // The payloads of one packet, the octets behind the header of the file, and the notes but for `packets` and `null`.
+    let good = "packets=1 null=0 rtp=0 type=0 payload=0 place=0 late=0 copies=0 blocks=1\n";
+    let bad = "packets=1 null=0 rtp=0 type=0 payload=1 place=0 late=0 copies=0 blocks=0\n";
+    let rows: [(Parts<'_>, Parts<'_>, &str); 8] = [
+        (&[(&[0xF3, 0xC0], 30)], &[(HEAD, 0), (&[0x3C], 31)], good),
+        // The pad bits are passed over.
+        (
+            &[(&[0xF3, 0xC0], 29), (&[3], 0)],
+            &[(HEAD, 0), (&[0x3C], 31)],
+            good,
+        ),
+        // An octet too many, and one too few.
+        (&[(&[0xF3, 0xC0], 31)], &[(HEAD, 0)], bad),
+        (&[(&[0xF2, 0x40], 17)], &[(HEAD, 0)], bad),
+        // A quality bit that is clear.
+        (&[(&[0xF2, 0x40], 18)], &[(HEAD, 0), (&[0x24], 19)], good),
+        // No octet, a reserved type, a table that isn't ended.
+        (&[], &[(HEAD, 0)], bad),
+        (&[(&[0xF4, 0xC0], 0)], &[(HEAD, 0)], bad),
+        (&[(&[0xF3], 0)], &[(HEAD, 0)], bad),
+    ];
+    for (payload, file, notes) in rows {
+        let log = log_of(rt.alloc(), &[at(0, 0, payload)])?;
+        expect(&rt, RECORD, &log, Status::Done, file, notes)?;
+    }
+    expect(
+        &rt,
+        RECORD,
+        &[],
+        Status::Done,
+        &[(HEAD, 0)],
+        "packets=0 null=0 rtp=0 type=0 payload=0 place=0 late=0 copies=0 blocks=0\n",
+    )?;
+
+    // A SID of AMR-WB, and a type that AMR-WB reserves.
+    let wide = "record --codec AMR-WB";
+    let log = log_of(rt.alloc(), &[at(0, 0, &[(&[0xF4, 0xC0], 5)])])?;
+    expect(
+        &rt,
+        wide,
+        &log,
+        Status::Done,
+        &[(b"#!AMR-WB\n", 0), (&[0x4C], 5)],
+        good,
+    )?;
+    let log = log_of(rt.alloc(), &[at(0, 0, &[(&[0xF5, 0x40], 0)])])?;
+    expect(&rt, wide, &log, Status::Done, &[(b"#!AMR-WB\n", 0)], bad)?;
+
+    // Two channels: a SID, and NO_DATA.
+    let log = log_of(rt.alloc(), &[at(0, 0, &[(&[0xFC, 0x5F], 5)])])?;
+    expect(
+        &rt,
+        "record --channels 2 --codec AMR",
+        &log,
+        Status::Done,
+        &[(b"#!AMR_MC1.0\n", 3), (&[2, 0x44], 5), (&[0x7C], 0)],
+        good,
+    )
 }
 
 #[test]
-fn a_log_of_one_packet_gives_its_frame(rt: HostRuntime) -> Result<(), Fail> {
-    let file = file_of(rt.alloc(), &[0x3C], 31)?;
-    let log = log_of(rt.alloc(), 44, &[0xF3, 0xC0], 30)?;
-    expect(&rt, RECORD, &log, Status::Done, &file)?;
+fn packets_go_out_in_their_order(rt: HostRuntime) -> Result<(), Fail> {
+    let seven: Parts<'_> = &[(&[0xF3, 0xC0], 30)];
+    let four: Parts<'_> = &[(&[0xF2, 0x40], 18)];
+    let two: Parts<'_> = &[(&[0xF1, 0x40], 14)];
+    let log = log_of(
+        rt.alloc(),
+        &[at(2, 320, two), at(0, 0, seven), at(1, 160, four)],
+    )?;
+    expect(
+        &rt,
+        "record --codec AMR --window 3",
+        &log,
+        Status::Done,
+        &[(HEAD, 0), (&[0x3C], 31), (&[0x24], 19), (&[0x14], 15)],
+        "packets=3 null=0 rtp=0 type=0 payload=0 place=0 late=0 copies=0 blocks=3\n",
+    )?;
+    // With a window of one block the two that come behind are late.
+    expect(
+        &rt,
+        "record --window 1 --codec AMR",
+        &log,
+        Status::Done,
+        &[(HEAD, 0), (&[0x14], 15)],
+        "packets=3 null=0 rtp=0 type=0 payload=0 place=0 late=2 copies=0 blocks=1\n",
+    )?;
+    // Frame times for which nothing came.
+    let log = log_of(rt.alloc(), &[at(0, 0, seven), at(1, 480, seven)])?;
+    expect(
+        &rt,
+        RECORD,
+        &log,
+        Status::Done,
+        &[(HEAD, 0), (&[0x3C], 31), (&[0x7C, 0x7C, 0x3C], 31)],
+        "packets=2 null=0 rtp=0 type=0 payload=0 place=0 late=0 copies=0 blocks=4\n",
+    )?;
+    // Two blocks in a payload, and the same where a payload may have one.
+    let log = log_of(rt.alloc(), &[at(0, 0, &[(&[0xFF, 0xDF], 0)])])?;
+    expect(
+        &rt,
+        RECORD,
+        &log,
+        Status::Done,
+        &[(HEAD, 0), (&[0x7C, 0x7C], 0)],
+        "packets=1 null=0 rtp=0 type=0 payload=0 place=0 late=0 copies=0 blocks=2\n",
+    )?;
+    expect(
+        &rt,
+        "record --codec AMR --max-blocks 1",
+        &log,
+        Status::Done,
+        &[(HEAD, 0)],
+        "packets=1 null=0 rtp=0 type=0 payload=1 place=0 late=0 copies=0 blocks=0\n",
+    )
+}
 
-    // The pad bits of the payload are passed over.
-    let mut log = log_of(rt.alloc(), 44, &[0xF3, 0xC0], 29)?;
-    log.push(3)?;
-    expect(&rt, RECORD, &log, Status::Done, &file)?;
+#[test]
+fn the_best_copy_is_kept(rt: HostRuntime) -> Result<(), Fail> {
+    // Speech without quality, a SID, and speech of a lower type: the last is the best, in whatever order they come.
+    let poor: Parts<'_> = &[(&[0xF3, 0x80], 30)];
+    let sid: Parts<'_> = &[(&[0xF4, 0x40], 5)];
+    let good: Parts<'_> = &[(&[0xF1, 0x40], 14)];
+    let orders: [[Parts<'_>; 3]; 6] = [
+        [poor, sid, good],
+        [poor, good, sid],
+        [sid, poor, good],
+        [sid, good, poor],
+        [good, poor, sid],
+        [good, sid, poor],
+    ];
+    for [a, b, c] in orders {
+        let log = log_of(rt.alloc(), &[at(0, 0, a), at(0, 0, b), at(0, 0, c)])?;
+        expect(
+            &rt,
+            RECORD,
+            &log,
+            Status::Done,
+            &[(HEAD, 0), (&[0x14], 15)],
+            "packets=3 null=0 rtp=0 type=0 payload=0 place=0 late=0 copies=2 blocks=1\n",
+        )?;
+    }
+    // Of equal frames the one with the greater bits.
+    let none: Parts<'_> = &[(&[0xF3, 0xC0], 30)];
+    let some: Parts<'_> = &[(&[0xF3, 0xC0], 29), (&[4], 0)];
+    for [a, b] in [[none, some], [some, none]] {
+        let log = log_of(rt.alloc(), &[at(0, 0, a), at(0, 0, b)])?;
+        expect(
+            &rt,
+            RECORD,
+            &log,
+            Status::Done,
+            &[(HEAD, 0), (&[0x3C], 30), (&[0x10], 0)],
+            "packets=2 null=0 rtp=0 type=0 payload=0 place=0 late=0 copies=1 blocks=1\n",
+        )?;
+    }
+    Ok(())
+}
 
-    // A payload one octet too long says nothing.
-    let log = log_of(rt.alloc(), 45, &[0xF3, 0xC0], 31)?;
-    expect(&rt, RECORD, &log, Status::Done, b"#!AMR\n")?;
+#[test]
+fn places_wrap_and_are_refused(rt: HostRuntime) -> Result<(), Fail> {
+    let seven: Parts<'_> = &[(&[0xF3, 0xC0], 30)];
+    let one: Parts<'_> = &[(HEAD, 0), (&[0x3C], 31)];
+    let two: Parts<'_> = &[(HEAD, 0), (&[0x3C], 31), (&[0x3C], 31)];
+    let whole = "packets=2 null=0 rtp=0 type=0 payload=0 place=0 late=0 copies=0 blocks=2\n";
+    let refused = "packets=2 null=0 rtp=0 type=0 payload=0 place=1 late=0 copies=0 blocks=1\n";
+    // The timestamps of two packets, the file and the notes.
+    let rows: [(u32, u32, Parts<'_>, &str); 8] = [
+        (0xFFFF_FFC0, 0x60, two, whole),
+        (0xFFFF_FFC0, 0x61, one, refused),
+        (0x60, 0xFFFF_FFC0, two, whole),
+        (0x7FFF_FFFF, 0x8000_009F, two, whole),
+        (0x8000_009F, 0x7FFF_FFFF, two, whole),
+        (0, 7_200_160, one, refused),
+        (0, 0x7FFF_FFE0, one, refused),
+        (0xFFFF_FF60, 0, two, whole),
+    ];
+    for (a, b, file, notes) in rows {
+        let log = log_of(rt.alloc(), &[at(0, a, seven), at(1, b, seven)])?;
+        expect(&rt, RECORD, &log, Status::Done, file, notes)?;
+    }
+    // A packet of another source, and one behind a packet that was refused as too far ahead.
+    let mut stranger = at(1, 160, seven);
+    stranger.ssrc = 1;
+    let log = log_of(rt.alloc(), &[at(0, 0, seven), stranger])?;
+    expect(&rt, RECORD, &log, Status::Done, one, refused)?;
+    let log = log_of(
+        rt.alloc(),
+        &[at(0, 0, seven), at(1, 7_200_160, seven), at(2, 160, seven)],
+    )?;
+    expect(
+        &rt,
+        RECORD,
+        &log,
+        Status::Done,
+        two,
+        "packets=3 null=0 rtp=0 type=0 payload=0 place=1 late=0 copies=0 blocks=2\n",
+    )
+}
 
-    // A frame whose quality bit is clear.
-    let file = file_of(rt.alloc(), &[0x24], 19)?;
-    let log = log_of(rt.alloc(), 32, &[0xF2, 0x40], 18)?;
-    expect(&rt, RECORD, &log, Status::Done, &file)
+#[test]
+fn a_long_gap_is_filled(rt: HostRuntime) -> Result<(), Fail> {
+    let seven: Parts<'_> = &[(&[0xF3, 0xC0], 30)];
+    let words = words_of(rt.alloc(), RECORD)?;
+    let log = log_of(rt.alloc(), &[at(0, 0, seven), at(1, 7_200_000, seven)])?;
+    let mut input = MemorySource::create(rt.alloc(), &log, 13, &[])?;
+    let mut output = MemorySink::create(rt.alloc(), ROOM, 99_999, &[])?;
+    let mut notes = MemorySink::create(rt.alloc(), 999, 999, &[])?;
+    let ended = run_gateway(rt.alloc(), &words, &mut input, &mut output, &mut notes);
+    assert_eq!(rt; ended, Status::Done);
+    let octets = output.octets();
+    assert_eq!(rt; octets.len(), 45_069usize);
+    let mut empty = 0u32;
+    for octet in octets {
+        if *octet == 0x7C && empty < 99_999 {
+            empty += 1;
+        }
+    }
+    assert_eq!(rt; empty, 44_999u32);
+    Ok(())
+}
+
+#[test]
+fn headers_are_read_whole(rt: HostRuntime) -> Result<(), Fail> {
+    let bad = "packets=1 null=0 rtp=1 type=0 payload=0 place=0 late=0 copies=0 blocks=0\n";
+    // A contributing source, an extension of one word, and four octets of padding.
+    let whole: [Parts<'_>; 1] = [&[
+        (&[0, 60, 0xB1, 0x60], 14),
+        (&[0xBE, 0xDE, 0, 1], 4),
+        (&[0xF3, 0xC0], 33),
+        (&[4], 0),
+    ]];
+    for record in whole {
+        let log = join(rt.alloc(), record)?;
+        expect(
+            &rt,
+            RECORD,
+            &log,
+            Status::Done,
+            &[(HEAD, 0), (&[0x3C], 31)],
+            "packets=1 null=0 rtp=0 type=0 payload=0 place=0 late=0 copies=0 blocks=1\n",
+        )?;
+    }
+    // Too short, another version, sources, an extension and padding that don't fit.
+    let refused: [Parts<'_>; 6] = [
+        &[(&[0, 11, 0x80, 0x60], 9)],
+        &[(&[0, 12, 0x40, 0x60], 10)],
+        &[(&[0, 12, 0x81, 0x60], 10)],
+        &[(&[0, 12, 0x90, 0x60], 10)],
+        &[(&[0, 12, 0xA0, 0x60], 10)],
+        &[(&[0, 13, 0xA0, 0x60], 11)],
+    ];
+    for record in refused {
+        let log = join(rt.alloc(), record)?;
+        expect(&rt, RECORD, &log, Status::Done, &[(HEAD, 0)], bad)?;
+    }
+    // Another payload type than the asked one.
+    let log = log_of(rt.alloc(), &[at(0, 0, &[(&[0xF3, 0xC0], 30)])])?;
+    expect(
+        &rt,
+        "record --codec AMR --pt 97",
+        &log,
+        Status::Done,
+        &[(HEAD, 0)],
+        "packets=1 null=0 rtp=0 type=1 payload=0 place=0 late=0 copies=0 blocks=0\n",
+    )
 }
 
 #[test]
 fn the_end_of_a_log_has_its_status(rt: HostRuntime) -> Result<(), Fail> {
-    let file = file_of(rt.alloc(), &[0x3C], 31)?;
-
-    // Octets of no whole record behind the packet.
-    let mut log = log_of(rt.alloc(), 44, &[0xF3, 0xC0], 30)?;
-    log.push(0)?;
-    expect(&rt, RECORD, &log, Status::InputRefused, &file)?;
-
-    // The record itself one octet short.
-    let log = log_of(rt.alloc(), 44, &[0xF3, 0xC0], 29)?;
-    expect(&rt, RECORD, &log, Status::InputRefused, b"#!AMR\n")?;
-
-    // A second packet, which isn't taken yet.
-    let mut log = log_of(rt.alloc(), 44, &[0xF3, 0xC0], 30)?;
-    let again = log_of(rt.alloc(), 44, &[0xF3, 0xC0], 30)?;
-    for octet in &again {
-        log.push(*octet)?;
-    }
-    expect(&rt, RECORD, &log, Status::NotBuilt, &file)
-}
-
-#[test]
-fn other_words_are_a_usage_fault(rt: HostRuntime) -> Result<(), Fail> {
-    let log = log_of(rt.alloc(), 44, &[0xF3, 0xC0], 30)?;
-    let lines: [&str; 7] = [
-        "",
-        "record",
-        "record --codec",
-        "record --codec amr",
-        "record --codec AMR --channels 1",
-        "Record --codec AMR",
-        "list --codec AMR",
+    let none = "packets=0 null=0 rtp=0 type=0 payload=0 place=0 late=0 copies=0 blocks=0\n";
+    let cut =
+        "packets=0 null=0 rtp=0 type=0 payload=0 place=0 late=0 copies=0 blocks=0\ntruncated have=1\n";
+    let limited =
+        "packets=0 null=0 rtp=0 type=0 payload=0 place=0 late=0 copies=0 blocks=0\nlimit reached\n";
+    let nulls = "packets=7 null=7 rtp=0 type=0 payload=0 place=0 late=0 copies=0 blocks=0\n";
+    let passed =
+        "packets=7 null=7 rtp=0 type=0 payload=0 place=0 late=0 copies=0 blocks=0\nlimit reached\n";
+    let cut_behind =
+        "packets=7 null=7 rtp=0 type=0 payload=0 place=0 late=0 copies=0 blocks=0\ntruncated have=1\n";
+    // The words, so many zeros, the status and the notes.
+    let rows: [(&str, u16, Status, &str); 6] = [
+        ("record --codec AMR --limit 1", 0, Status::Done, none),
+        ("record --codec AMR --limit 1", 1, Status::InputRefused, cut),
+        (
+            "record --codec AMR --limit 1",
+            2,
+            Status::LimitReached,
+            limited,
+        ),
+        ("record --codec AMR --limit 14", 14, Status::Done, nulls),
+        (
+            "record --codec AMR --limit 14",
+            15,
+            Status::LimitReached,
+            passed,
+        ),
+        ("record --codec AMR", 15, Status::InputRefused, cut_behind),
     ];
-    for line in lines {
-        expect(&rt, line, &log, Status::Usage, &[])?;
+    for (line, zeros, status, notes) in rows {
+        let log = join(rt.alloc(), &[(&[], zeros)])?;
+        expect(&rt, line, &log, status, &[(HEAD, 0)], notes)?;
     }
     Ok(())
 }
 
 #[test]
-fn faults_are_told_by_their_end(rt: HostRuntime) -> Result<(), Fail> {
-    let words = words_of(rt.alloc(), RECORD)?;
-    let log = log_of(rt.alloc(), 44, &[0xF3, 0xC0], 30)?;
+fn other_words_are_a_usage_fault(rt: HostRuntime) -> Result<(), Fail> {
+    let log = log_of(rt.alloc(), &[at(0, 0, &[(&[0xF3, 0xC0], 30)])])?;
+    let lines: [&str; 12] = [
+        "",
+        "record",
+        "record --codec",
+        "record --codec amr",
+        "Record --codec AMR",
+        "list --codec AMR",
+        "record --codec=AMR",
+        "record --codec AMR --codec AMR",
+        "record --codec AMR --blocks 2",
+        "record --codec AMR --window 1 --max-blocks 2",
+        "record --codec AMR --channels 7",
+        "record --codec AMR --limit 00000000000007",
+    ];
+    for line in lines {
+        expect(
+            &rt,
+            line,
+            &log,
+            Status::Usage,
+            &[],
+            "usage: record, stream, convert, list, answer or trial, then pairs of an option and its value\n",
+        )?;
+    }
+    Ok(())
+}
 
-    // The second read fails.
-    let mut input = MemorySource::create(rt.alloc(), &log, 13, &[1])?;
-    let mut output = MemorySink::create(rt.alloc(), 999, 999, &[])?;
-    let mut notes = MemorySink::create(rt.alloc(), 999, 999, &[])?;
-    let ended = run_gateway(rt.alloc(), &words, &mut input, &mut output, &mut notes);
-    assert_eq!(rt; ended, Status::ReadFault);
+// What a run put out that met a fault, and what it noted.
+fn run_with(
+    rt: &(impl Abort + Alloc<A = Global>),
+    line: &str,
+    log: &[u8],
+    reads: &[u64],
+    writes: &[u64],
+    notes: &[u64],
+) -> Result<(Status, usize, usize), Fail> {
+    let words = words_of(rt.alloc(), line)?;
+    let mut input = MemorySource::create(rt.alloc(), log, 1, reads)?;
+    let mut output = MemorySink::create(rt.alloc(), 999, 1, writes)?;
+    let mut told = MemorySink::create(rt.alloc(), 999, 999, notes)?;
+    let ended = run_gateway(rt.alloc(), &words, &mut input, &mut output, &mut told);
+    Ok((ended, output.octets().len(), told.octets().len()))
+}
 
-    // The first write fails.
-    let mut input = MemorySource::create(rt.alloc(), &log, 13, &[])?;
-    let mut output = MemorySink::create(rt.alloc(), 999, 999, &[0])?;
-    let ended = run_gateway(rt.alloc(), &words, &mut input, &mut output, &mut notes);
-    assert_eq!(rt; ended, Status::WriteFault);
-    assert_eq!(rt; output.octets(), [].as_slice());
+#[test]
+fn faults_leave_a_front_of_the_file(rt: HostRuntime) -> Result<(), Fail> {
+    let seven: Parts<'_> = &[(&[0xF3, 0xC0], 30)];
+    let four: Parts<'_> = &[(&[0xF2, 0x40], 18)];
+    let two: Parts<'_> = &[(&[0xF1, 0x40], 14)];
+    let log = log_of(
+        rt.alloc(),
+        &[at(2, 320, two), at(0, 0, seven), at(1, 160, four)],
+    )?;
+    let line = "record --codec AMR --window 3";
+    // A log of 110 octets: whatever read fails, the header is out, and nothing else has left the window.
+    for failing in 0..111u64 {
+        let (status, written, noted) = run_with(&rt, line, &log, &[failing], &[], &[])?;
+        assert_eq!(rt; status, Status::ReadFault, "read {failing}");
+        assert_eq!(rt; written, 6usize, "read {failing}");
+        assert_eq!(rt; noted, 11usize, "read {failing}");
+    }
+    // A file of 74 octets, written one by one: the octets before the failing write are out.
+    for failing in 0..74u64 {
+        let (status, written, noted) = run_with(&rt, line, &log, &[], &[failing], &[])?;
+        assert_eq!(rt; status, Status::WriteFault, "write {failing}");
+        assert_eq!(rt; written as u64, failing, "write {failing}");
+        assert_eq!(rt; noted, 12usize, "write {failing}");
+    }
+    // Without a fault, and with notes that fail.
+    let (status, written, noted) = run_with(&rt, line, &log, &[], &[], &[])?;
+    assert_eq!(rt; status, Status::Done);
+    assert_eq!(rt; written, 74usize);
+    assert_eq!(rt; noted, 74usize);
+    let (status, written, noted) = run_with(&rt, line, &log, &[], &[], &[0])?;
+    assert_eq!(rt; status, Status::WriteFault);
+    assert_eq!(rt; written, 74usize);
+    assert_eq!(rt; noted, 0usize);
+    Ok(())
+}
+
+#[test]
+fn a_log_cut_anywhere_is_told(rt: HostRuntime) -> Result<(), Fail> {
+    let log = log_of(rt.alloc(), &[at(0, 0, &[(&[0xF3, 0xC0], 30)])])?;
+    let mut length = 0usize;
+    for _ in 0..46 {
+        if log.len() < length {
+            break;
+        }
+        let (status, written, _) = run_with(&rt, RECORD, &log[..length], &[], &[], &[])?;
+        let wanted = if length == 0 {
+            Status::Done
+        } else {
+            Status::InputRefused
+        };
+        assert_eq!(rt; status, wanted, "{length} octets");
+        assert_eq!(rt; written, 6usize, "{length} octets");
+        length += 1;
+    }
     Ok(())
 }

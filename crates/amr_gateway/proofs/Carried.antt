@@ -1,13 +1,11 @@
 -- What was gained, told of the sinks and the plan that a caller has.
 use Rattle.std.proofs.Common.{◌≡◌, ℕ, List, sym, subst, Option, ℤ}
 use Rattle.amr_gateway.specs.Hearing.{Gained, GainedPart}
-use Rattle.amr_playout.specs.Receiver.{sent}
 use Rattle.amr_playout.specs.Refusals.{OnFault, OnRefusal}
 use Rattle.amr_playout.specs.declared.answers.Offered.{Offered as Answer}
 use Rattle.amr_playout.specs.declared.answers.Offered.TheVariants as answer
 use Rattle.amr_playout.specs.declared.plan.Plan.{Plan}
 use Rattle.amr_frame.specs.Frames.{Frame}
-use Rattle.spec_session.specs.Packets.{Packet}
 
 pub gained_at : {O : Type 0} (got : O → Option (List ℕ)) (f : Plan → List (List Frame)) (f' : Plan → List (List Frame)) (plan plan' : Plan) (a b o n : O) → plan ≡ plan' → b ≡ a → o ≡ n
     → Gained (got b) (got n) (f plan) (f' plan) → Gained (got a) (got o) (f plan') (f' plan')

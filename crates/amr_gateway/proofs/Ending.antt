@@ -8,7 +8,6 @@ use Rattle.amr_gateway.specs.Jobs.{recording_of}
 use Rattle.amr_gateway.specs.Recorded.{Recorded}
 use Rattle.amr_gateway.specs.Tallies.{counts_in, told_by}
 use Rattle.amr_gateway.specs.declared.job.RecordJob.{RecordJob}
-use Rattle.amr_gateway.specs.declared.report.RunEnd.{RunEnd}
 use Rattle.amr_gateway.specs.declared.report.RunEnd.TheVariants as run
 use Rattle.amr_gateway.specs.declared.report.RunReport.{RunReport}
 use Rattle.amr_gateway.specs.declared.tally.Tally.{Tally}

@@ -1,7 +1,6 @@
 -- What a record changes that is no packet of the session, and what a packet changes.
-use Rattle.std.proofs.Common.{◌≡◌, ℕ, ◌+◌, false, List, [], ◌∷◌, ◌++◌, length, refl, ap, ◌∙◌, sym, subst, arith, Option, Some, None}
+use Rattle.std.proofs.Common.{◌≡◌, ℕ, ◌+◌, false, List, [], ◌∷◌, ◌++◌, length, ap, ◌∙◌, sym, subst, arith, Option, Some}
 use Rattle.std.specs.Prelude.{OnOk, OnErr, IfOk, Result, Ok, Err}
-use Rattle.amr_frame.specs.Frames.{Frame}
 use Rattle.amr_io.specs.declared.source.Failed.{Failed}
 use Rattle.amr_gateway.proofs.Passing.{told_packet}
 use Rattle.amr_gateway.proofs.Records.{packets_more, packets_same}

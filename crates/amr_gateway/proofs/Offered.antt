@@ -1,11 +1,11 @@
 -- What an offer does to the accepted packets.
-use Rattle.std.proofs.Common.{◌≡◌, ℕ, ◌+◌, List, [], ◌∷◌, ◌++◌, length, refl, ap, ◌∙◌, sym, arith, length-append}
+use Rattle.std.proofs.Common.{◌≡◌, ◌+◌, List, [], ◌∷◌, ◌++◌, length, ap, ◌∙◌, length-append}
 use Rattle.std.proofs.lemmas.List.Sums.{fold-append}
 use Rattle.amr_playout.specs.Refusals.{IsRefusal}
 use Rattle.amr_playout.specs.declared.answers.Offered.{Offered as Answer}
 use Rattle.amr_playout.specs.declared.answers.Offered.TheVariants as answer
 use Rattle.spec_session.specs.Packets.{Packet}
-use Rattle.spec_session.specs.Session.{Accept, Accepted, Rules, Verdict, OtherSource, OffGrid, FarAhead, accepted, taken, verdict, with_packet}
+use Rattle.spec_session.specs.Session.{Accept, Accepted, Rules, Verdict, accepted, taken, verdict, with_packet}
 
 more : (rules : Rules) (h : List Packet) (x : Packet) → accepted rules (h ++ x ∷ []) ≡ accepted rules h ++ taken (verdict rules (accepted rules h) x)
 more rules h x = fold-append (with_packet rules) [] h (x ∷ [])

@@ -1,5 +1,5 @@
 -- Which test of a recording a record meets.
-use Rattle.std.proofs.Common.{◌≡◌, ℕ, Bool, true, false, List, [], ◌∷◌, length, refl, ap, ◌∙◌, sym, Option, Some, None, Ok, Err}
+use Rattle.std.proofs.Common.{◌≡◌, ℕ, true, false, List, [], ◌∷◌, length, refl, Some, None, Ok, Err}
 use Rattle.amr_gateway.specs.Hearing.{IsPacket, IsTold, Meets}
 use Rattle.amr_gateway.specs.declared.tally.Heard.{Heard}
 use Rattle.amr_gateway.specs.declared.tally.Heard.TheVariants.{Null, NoRtp, OtherType, NoPayload, NoPlace, Accepted}
@@ -12,7 +12,6 @@ use Rattle.spec_payload.specs.declared.refusal.PayloadRefusal.{PayloadRefusal}
 use Rattle.spec_record.specs.RecordCounts.{is_null}
 use Rattle.spec_record.specs.Recording.{Recording}
 use Rattle.spec_session.specs.Packets.{Packet, is_asked, packet_of, packets_of}
-use Rattle.std.specs.Prelude.{filter_map, length as len}
 
 pub null_met : (r : Recording) (octets : List ℕ) → octets ≡ [] → Meets r octets true false false false 0
 null_met r [] e = record { null_is = refl; rtp_is = refl; other_type_is = refl; payload_is = refl; packets_are = refl }

@@ -1,6 +1,6 @@
 -- What a valid plan says of its format.
-use Rattle.std.proofs.Common.{◌≡◌, ℕ, ◌≤◌, Bool, true, false, [], ◌∷◌, refl, sym, subst, arith, Option, Some, None}
-use Rattle.std.specs.Prelude.{IsTrue, ◌||◌, ◌&&◌, nat_eq, nat_le, nat_lt, option_map}
+use Rattle.std.proofs.Common.{◌≡◌, ℕ, ◌≤◌, Bool, [], ◌∷◌, refl, sym, subst, arith, Option, Some, None}
+use Rattle.std.specs.Prelude.{IsTrue, ◌||◌, nat_eq, nat_lt, option_map}
 use Rattle.std.proofs.lemmas.Bool.Decides.{nat_tests}
 use Rattle.amr_playout.proofs.Plans.{facts}
 use Rattle.amr_store.specs.Written.{takes_blocks}
@@ -11,7 +11,6 @@ use Rattle.amr_frame.specs.Profiles.{IsValid, group_bound, profile_fault}
 use Rattle.amr_frame.specs.declared.profile.ProfileFault.{ProfileFault}
 use Rattle.amr_playout.specs.Plans.{IsPlan, most_together}
 use Rattle.amr_playout.specs.declared.plan.Plan.{Plan}
-use Rattle.amr_playout.specs.declared.plan.PlanFault.{PlanFault}
 use Rattle.amr_playout.specs.declared.plan.PlanFault.TheVariants as fault
 
 none_first : (o : Option ProfileFault) (b c : Bool) → first (option_map (λ why. fault.Profile why) o ∷ when b fault.Window ∷ when c fault.Reach ∷ []) ≡ None → o ≡ None

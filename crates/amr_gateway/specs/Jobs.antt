@@ -1,5 +1,5 @@
 -- What a job asks.
-use Rattle.std.specs.Prelude.{◌≡◌, ◌≤◌, ◌^◌}
+use Rattle.std.specs.Prelude.{◌≤◌, ◌^◌}
 use Rattle.amr_gateway.specs.declared.job.RecordJob.{RecordJob}
 use Rattle.amr_playout.specs.Plans.{IsPlan, rules_in}
 use Rattle.spec_record.specs.Recording.{Recording}

@@ -1,7 +1,7 @@
 -- What recording a log did, by its end: ours.
 use Rattle.std.specs.Prelude.{◌≡◌, ℕ, List, Option}
 use Rattle.std.specs.Io.KnownBytes.{Appends}
-use Rattle.amr_gateway.specs.Ends.{IsWhole, run_end}
+use Rattle.amr_gateway.specs.Ends.{run_end}
 use Rattle.amr_gateway.specs.Jobs.{recording_of}
 use Rattle.amr_gateway.specs.Tallies.{counts_in}
 use Rattle.amr_gateway.specs.declared.job.RecordJob.{RecordJob}

@@ -1,4 +1,4 @@
-use Rattle.std.proofs.Common.{◌≡◌, rules}
+use Rattle.std.proofs.Common.{rules}
 use Rattle.amr_cli.proofs.Clauses.{notes_part_of}
 use Rattle.amr_cli.specs.Runs.{Ran}
 use Rattle.amr_cli.proofs.run.run_gateway.Goals as goal

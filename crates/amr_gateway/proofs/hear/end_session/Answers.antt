@@ -1,11 +1,10 @@
-use Rattle.std.proofs.Common.{◌≡◌, ℕ, List, ◌++◌, refl, sym, ap, ◌∙◌, subst, arith}
-use Rattle.std.specs.Prelude.{OnErr, OnOk}
+use Rattle.std.proofs.Common.{◌≡◌, sym, ◌∙◌, subst}
 use Rattle.amr_gateway.proofs.Bounds.{room}
 use Rattle.amr_gateway.proofs.Carried.{gained_at, gained_part_at}
 use Rattle.amr_gateway.proofs.Plans.{channels_within, takes_at}
 use Rattle.amr_gateway.proofs.Texts.{gained, gained_part}
 use Rattle.amr_playout.specs.Plans.{rules_in}
-use Rattle.amr_playout.specs.Receiver.{StandsFor, sent}
+use Rattle.amr_playout.specs.Receiver.{sent}
 use Rattle.amr_playout.specs.declared.plan.Plan.{Plan}
 use Rattle.spec_session.specs.Counts.{block_count}
 use Rattle.spec_session.specs.Release.{released}

@@ -1,4 +1,4 @@
-use Rattle.std.proofs.Common.{◌≡◌, ◌+◌, ℕ, List, [], ◌∷◌, length, refl, sym, ap, ◌∙◌, subst, arith, true, false, Ok, Err, Some}
+use Rattle.std.proofs.Common.{◌≡◌, ℕ, List, [], ◌∷◌, length, refl, sym, ap, ◌∙◌, arith, true, false, Ok, Some}
 use Rattle.amr_gateway.proofs.Heard.{packet_front, packet_hears, packet_out, packet_takes, packet_told, passed_hears, passed_out, passed_takes}
 use Rattle.amr_gateway.proofs.Passing.{no_payload_met, no_rtp_met, null_met, other_type_met, packet_is, packet_met, said_by}
 use Rattle.amr_gateway.proofs.Plans.{format_valid}
@@ -74,8 +74,8 @@ returns-then-not-is_asked-clause-accepted g c = passed_takes c.args.job.now c.ar
 pub returns-then-not-is_asked-clause-same : goal.returns-then-not-is_asked-clause-same
 returns-then-not-is_asked-clause-same g c = g.met.O.Sink.reflexive c.args.output.now
 
-pub read_payload-requires-clause-valid : goal.read_payload-requires-clause-valid
-read_payload-requires-clause-valid g c = format_valid c.args.job.now.plan c.requires.served.plan
+pub read_payload-requires : goal.read_payload-requires
+read_payload-requires g c = format_valid c.args.job.now.plan c.requires.served.plan
 
 no_payload : (g : Over) (c : goal.In_default-read_payload g) → Meets (recording_of c.args.job.now) c.args.octets.now false false false true 0
 no_payload g c =

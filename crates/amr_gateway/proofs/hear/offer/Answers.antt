@@ -1,17 +1,16 @@
-use Rattle.std.proofs.Common.{◌≡◌, ◌+◌, ℕ, List, [], ◌∷◌, ◌++◌, length, refl, sym, ap, ◌∙◌, subst, arith, true, false, Ok, Err, Some}
+use Rattle.std.proofs.Common.{◌≡◌, ◌+◌, [], ◌∷◌, ◌++◌, length, sym, ◌∙◌, subst, arith}
 use Rattle.amr_gateway.proofs.Bounds.{bounded_more, bounded_same, room}
 use Rattle.amr_gateway.proofs.Carried.{ahead_at, fault_at, gained_at, gained_part_at, grid_at, source_at}
 use Rattle.amr_gateway.proofs.Offered.{accepts, refuses}
 use Rattle.amr_gateway.proofs.Plans.{channels_within, takes_at}
 use Rattle.amr_gateway.proofs.Texts.{gained, gained_none, gained_part}
 use Rattle.amr_gateway.specs.Going.{IsBounded}
-use Rattle.amr_gateway.specs.Hearing.{Gained, GainedPart}
+use Rattle.amr_gateway.specs.Hearing.{Gained}
 use Rattle.amr_playout.specs.Heard.{heard}
 use Rattle.amr_io.specs.Fault.{Rose}
 use Rattle.amr_playout.specs.Plans.{IsPlan, rules_in}
-use Rattle.amr_playout.specs.Receiver.{StandsFor, sent}
+use Rattle.amr_playout.specs.Receiver.{sent}
 use Rattle.amr_playout.specs.declared.plan.Plan.{Plan}
-use Rattle.spec_session.specs.Packets.{Packet}
 use Rattle.spec_session.specs.Session.{accepted}
 use Rattle.amr_gateway.proofs.hear.offer.Goals as goal
 

@@ -1,4 +1,4 @@
-use Rattle.std.proofs.Common.{◌≡◌, sym, subst, ap, ◌∙◌, List, ℕ}
+use Rattle.std.proofs.Common.{◌≡◌, sym, subst, ◌∙◌, ℕ}
 use Rattle.std.specs.Prelude.{IfSome}
 use Rattle.amr_gateway.proofs.Ending.{read_fault_of, recorded_of, write_fault_of}
 use Rattle.amr_gateway.specs.Jobs.{recording_of}

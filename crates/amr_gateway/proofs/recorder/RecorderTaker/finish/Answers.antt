@@ -1,9 +1,7 @@
-use Rattle.std.proofs.Common.{◌≡◌, ◌≤◌, ◌^◌, ℕ, List, ◌∷◌, ◌++◌, [], refl, ap, sym, ◌∙◌, subst, arith}
-use Rattle.std.specs.Prelude.{map, sum}
+use Rattle.std.proofs.Common.{◌≡◌, refl, subst}
 use Rattle.amr_gateway.proofs.Results.{on_err_then, on_ok_all}
 use Rattle.amr_gateway.proofs.Tallying.{told_right}
 use Rattle.amr_gateway.proofs.Texts.{file_part, file_puts}
-use Rattle.amr_gateway.specs.Jobs.{recording_of}
 use Rattle.amr_playout.specs.Plans.{rules_in}
 use Rattle.amr_playout.specs.declared.plan.Plan.{Plan}
 use Rattle.spec_session.specs.Counts.{copy_count, late_count}

@@ -1,4 +1,3 @@
-use Rattle.std.proofs.Common.{◌≡◌, ◌∷◌, ◌++◌, [], ap, sym, ◌∙◌, subst}
 use Rattle.amr_gateway.proofs.Results.{on_err}
 use Rattle.amr_gateway.proofs.Tallying.{tallied_more}
 use Rattle.amr_gateway.proofs.Texts.{early_part, early_puts}
