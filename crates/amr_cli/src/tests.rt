@@ -479,7 +479,7 @@ fn faults_leave_a_front_of_the_file(rt: HostRuntime) -> Result<(), Fail> {
     let (status, written, noted) = run_with(&rt, line, &log, &[], &[], &[])?;
     assert_eq!(rt; status, Status::Done);
     assert_eq!(rt; written, 74usize);
-    assert_eq!(rt; noted, 74usize);
+    assert_eq!(rt; noted, 73usize);
     let (status, written, noted) = run_with(&rt, line, &log, &[], &[], &[0])?;
     assert_eq!(rt; status, Status::WriteFault);
     assert_eq!(rt; written, 74usize);
