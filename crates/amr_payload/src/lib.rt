@@ -1,8 +1,12 @@
-//! Payloads of AMR and AMR-WB frames in every format (RFC 4867, 4.3 and 4.4), read in place.
+//! Payloads of AMR and AMR-WB frames in every format (RFC 4867, 4.3 and 4.4), read in place and written.
 #![tactic(auto)]
 
 mod read;
 #[cfg(test)]
 mod tests;
+mod write;
+#[cfg(test)]
+mod write_tests;
 
 pub use read::read_payload;
+pub use write::{size_payload, write_payload};
