@@ -80,12 +80,14 @@ fn comes_back(profile: &Profile, cells: &[Cell]) -> bool
     requires present { AllByRecursion (λ (cell : Cell). IsTrue cell.present) cells.now }
     requires frames { AllByRecursion (IsFrame profile.now.codec) (frames_of cells.now) }
 {
-    let Some((out, size)) = written(profile, cells) else {
-        return false;
-    };
     if let Err(_) = profile.check() {
         return false;
     }
+    let Some(pair) = written(profile, cells) else {
+        return false;
+    };
+    let out = pair.0;
+    let size = pair.1;
     if size > MOST {
         return false;
     }
