@@ -24,7 +24,7 @@ use Rattle.spec_payload.specs.Reading.{payload_refusal}
 use Rattle.spec_payload.specs.Values.{Value, IsValue}
 
 -- the bits of the canonical octets are those that are written
-bits_of_text : (p : Profile) (v : Value) → p.octet_aligned ≡ false → bits_of (text p v) ≡ map settled (layout p v [])
+pub bits_of_text : (p : Profile) (v : Value) → p.octet_aligned ≡ false → bits_of (text p v) ≡ map settled (layout p v [])
 bits_of_text p v packed = ap bits_of (text_is p v packed) ∙ bits_of_filled (whole v) ∙ sym (settled_layout p v [] packed)
 
 -- they are a payload of the value

@@ -1,5 +1,5 @@
 -- The canonical octets of an octet-aligned payload, part by part.
-use Rattle.std.proofs.Common.{◌≡◌, ℕ, zero, suc, ◌+◌, ◌-◌, ◌*◌, ◌/◌, ◌%◌, ◌<◌, ◌≤◌, Bool, true, false, cond, ltb, nat_eq, List, [], ◌∷◌, ◌++◌, length, map, take, drop, get_or, sym, refl, ap, subst, ◌∙◌, arith, Option, Some, None}
+use Rattle.std.proofs.Common.{◌≡◌, ℕ, zero, suc, ◌+◌, ◌-◌, ◌*◌, ◌/◌, ◌%◌, ◌<◌, ◌≤◌, Bool, true, false, cond, ltb, nat_eq, List, [], ◌∷◌, ◌++◌, length, map, take, drop, replicate, get_or, sym, refl, ap, subst, ◌∙◌, arith, Option, Some, None}
 use Rattle.std.specs.Prelude.{◌&&◌, is_some, flat_map, filter, sum}
 use Rattle.std.specs.List.{AllByRecursion, range_with_len}
 use Rattle.std.proofs.lemmas.Bool.{ltb-true}
@@ -9,7 +9,7 @@ use Rattle.std.proofs.lemmas.List.Concat.{flat_map-append}
 use Rattle.std.proofs.lemmas.List.Sums.{sum_by-cons}
 use Rattle.amr_bits.specs.Bits.{nat, bits_of, bits_at, part, filled, octets_for}
 use Rattle.amr_bits.specs.Layout.{Mark, fixed, free, padded, settled}
-use Rattle.amr_bits.proofs.Filled.{octet_of, filled-front, length-filled}
+use Rattle.amr_bits.proofs.Filled.{octet_of, filled-front, gap, length-filled}
 use Rattle.amr_bits.proofs.Runs.{run-all, run-is_part, run-octet}
 use Rattle.amr_frame.specs.declared.codec.Codec.{Codec}
 use Rattle.amr_frame.specs.declared.profile.Profile.{Profile}
@@ -24,7 +24,7 @@ use Rattle.spec_payload.specs.RobustOrder.{Place, place, order}
 use Rattle.spec_payload.specs.Values.{Value, IsValue, FitsGroup, has_bits, octet_counts}
 
 -- two halves of an octet
-halves : (a b v : ℕ) → b < 16 → v ≡ 16 * a + b → nat 8 v ≡ nat 4 a ++ nat 4 b
+pub halves : (a b v : ℕ) → b < 16 → v ≡ 16 * a + b → nat 8 v ≡ nat 4 a ++ nat 4 b
 halves a b v h e =
     let one : v / 128 % 2 ≡ a / 8 % 2 = omega arith in
     let two : v / 64 % 2 ≡ a / 4 % 2 = omega arith in
@@ -45,7 +45,7 @@ grouped (Some most) blocks v h =
     sym (halves (v.stride - 1) v.index (16 * (v.stride - 1) + v.index) (omega arith) refl)
 
 -- an entry, by the bits F and Q
-abbrev digit : Bool → ℕ
+abbrev pub digit : Bool → ℕ
 digit b = cond b 1 0
 
 small : (b : Bool) → digit b ≤ 1
@@ -56,7 +56,7 @@ is_bit : (b : Bool) → nat_eq (digit b) 1 ≡ b
 is_bit true = refl
 is_bit false = refl
 
-entry_bits : (more q : Bool) (ft v : ℕ) → ft ≤ 15 → v ≡ 128 * digit more + 8 * ft + 4 * digit q → nat 8 v ≡ more ∷ nat 4 ft ++ q ∷ false ∷ false ∷ []
+pub entry_bits : (more q : Bool) (ft v : ℕ) → ft ≤ 15 → v ≡ 128 * digit more + 8 * ft + 4 * digit q → nat 8 v ≡ more ∷ nat 4 ft ++ q ∷ false ∷ false ∷ []
 entry_bits more q ft v h e =
     let a = small more in
     let b = small q in
@@ -253,8 +253,8 @@ length-header p v = by p.interleaving
     by (Some most) = refl
 
 -- and a payload
-pub length-text : (p : Profile) (v : Value) → p.octet_aligned ≡ true → IsValue p v → length (text p v) ≡ cond (is_some p.interleaving) 2 1 + length v.frames + length (checks_part p v.frames) + length (plain_part v.frames)
-length-text p v aligned h =
+pub length-written : (p : Profile) (v : Value) → length (written_as p v) ≡ cond (is_some p.interleaving) 2 1 + length v.frames + length (checks_part p v.frames) + length (plain_part v.frames)
+length-written p v =
     let a = header_part p v in
     let t = table_part v.frames in
     let c = checks_part p v.frames in
@@ -262,12 +262,17 @@ length-text p v aligned h =
     let l = length-append (a ++ t ++ c) b in
     let m = length-append (a ++ t) c in
     let n = length-append a t in
-    let x = length-bits_of (written_as p v) in
-    let octets : octets_for (length (bits_of (written_as p v))) ≡ length (written_as p v) = omega arith in
     let r = length-header p v in
     let s = length-table v.frames in
     let q = length-body p.sorting v.frames in
-    ap length (text_is p v aligned h) ∙ length-filled (bits_of (written_as p v)) ∙ octets ∙ omega arith
+    omega arith
+
+pub length-text : (p : Profile) (v : Value) → p.octet_aligned ≡ true → IsValue p v → length (text p v) ≡ cond (is_some p.interleaving) 2 1 + length v.frames + length (checks_part p v.frames) + length (plain_part v.frames)
+length-text p v aligned h =
+    let w = written_as p v in
+    let x = length-bits_of w in
+    let octets : octets_for (length (bits_of w)) ≡ length w = omega arith in
+    ap length (text_is p v aligned h) ∙ length-filled (bits_of w) ∙ octets ∙ length-written p v
 
 -- octets that have these bits
 pub filled_octets : (octets : List ℕ) → ((k : ℕ) → get_or octets k 0 < 256) → filled (bits_of octets) ≡ octets
@@ -276,3 +281,16 @@ filled_octets octets small =
     ap filled (sym (run-all octets) ∙ sym (append-nil (bits_at octets 0 (8 * n))))
     ∙ filled-front octets n [] (omega arith) small
     ∙ append-nil (take n octets) ∙ take_all n octets (omega arith)
+
+-- the bits of the canonical octets are those that are written
+pub bits_of_text : (p : Profile) (v : Value) → p.octet_aligned ≡ true → IsValue p v → bits_of (text p v) ≡ map settled (layout p v (map (check_of p) (checked p v.frames)))
+bits_of_text p v aligned h =
+    let w = written_as p v in
+    let b = bits_of w in
+    let l = length-bits_of w in
+    let none : gap b ≡ 0 = omega arith in
+    ap bits_of (text_is p v aligned h) ∙ bits_of_filled b ∙ ap (λ (n : ℕ). b ++ replicate n false) none ∙ append-nil b ∙ sym (settled_layout p v aligned h)
+
+-- and those of its parts
+pub bits_of_parts : (p : Profile) (v : Value) → p.octet_aligned ≡ true → IsValue p v → bits_of (text p v) ≡ bits_of (written_as p v)
+bits_of_parts p v aligned h = bits_of_text p v aligned h ∙ settled_layout p v aligned h

@@ -2,10 +2,12 @@
 #![tactic(auto)]
 
 mod body;
+mod laws;
 mod read;
 #[cfg(test)]
 mod tests;
 mod write;
 
+pub use laws::accepts_what_was_written;
 pub use read::read_oa;
 pub use write::{size_oa, write_oa};

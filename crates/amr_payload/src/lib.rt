@@ -1,6 +1,7 @@
 //! Payloads of AMR and AMR-WB frames in every format (RFC 4867, 4.3 and 4.4), read in place and written.
 #![tactic(auto)]
 
+mod laws;
 mod read;
 #[cfg(test)]
 mod tests;
@@ -8,5 +9,6 @@ mod write;
 #[cfg(test)]
 mod write_tests;
 
+pub use laws::{says_what_is_written, writes_what_is_said};
 pub use read::read_payload;
 pub use write::{size_payload, write_payload};
