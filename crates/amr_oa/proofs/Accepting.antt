@@ -1,14 +1,16 @@
 -- The canonical octets of an octet-aligned payload aren't refused.
 use Rattle.std.proofs.Common.{◌≡◌, ℕ, zero, suc, ◌+◌, ◌-◌, ◌*◌, ◌/◌, ◌%◌, ◌<◌, ◌≤◌, Bool, true, false, cond, not, eqb, ltb, List, [], ◌∷◌, ◌++◌, length, map, take, drop, get_or, sym, refl, ap, subst, ◌∙◌, arith, Option, Some, None, inl, inr}
-use Rattle.std.specs.Prelude.{◌&&◌, ◌||◌, is_some, flat_map, filter, sum}
+use Rattle.std.specs.Prelude.{◌&&◌, ◌||◌, is_some, flat_map, filter, sum, Ok}
 use Rattle.std.specs.Option.{unwrap_or}
-use Rattle.std.specs.List.{AllByRecursion, range_with_len}
+use Rattle.std.specs.List.{AllByRecursion, position_or_len, range_with_len}
 use Rattle.std.proofs.lemmas.Bool.{cases_lt, le-ltb, lt-ltb, ne_eqb}
 use Rattle.std.proofs.lemmas.List.{length-append, length-map, get_or-map, get_or-append-add, get_or_append_left}
 use Rattle.std.proofs.lemmas.List.FromFn.{fill_by_all}
 use Rattle.std.proofs.Math.Nat.{mul-div_cancel, mul-le-mul_right, mul-mod_left}
-use Rattle.amr_bits.specs.Bits.{nat, number, bits_of, bits_at, octets_for}
-use Rattle.amr_bits.proofs.Runs.{run-is_part, run-octet}
+use Rattle.amr_bits.specs.Bits.{nat, number, bits_of, bit_at, bits_at, number_at, filled, octets_for}
+use Rattle.amr_bits.specs.Layout.{settled}
+use Rattle.amr_bits.proofs.Filled.{bits-filled, filled-lt}
+use Rattle.amr_bits.proofs.Runs.{run-get, run-is_part, run-octet}
 use Rattle.amr_frame.specs.declared.codec.Codec.{Codec}
 use Rattle.amr_frame.specs.declared.profile.Profile.{Profile}
 use Rattle.amr_frame.specs.First.{when, first}
@@ -16,17 +18,22 @@ use Rattle.amr_frame.specs.Frames.{Frame, IsFrame, no_data}
 use Rattle.amr_frame.specs.Profiles.{group_bound, IsValid}
 use Rattle.amr_frame.specs.Tables.{bits_in, octets_in, is_reserved}
 use Rattle.amr_oa.specs.Written.{interleaving_part, header_part, entry_octet, table_part, checks_part, plain_part, body_part, written_as}
-use Rattle.amr_oa.proofs.Canonical.{bits_of_parts, halves, entry_bits, length-written, length-header, length-table, length-plain}
+use Rattle.amr_oa.proofs.Canonical.{bits_of_parts, body_is, length-body, checks_are, count_at, octet_there, halves, entry_bits, length-written, length-header, length-table, length-plain}
+use Rattle.amr_oa.proofs.Returning.{stands, checked_marked, check_small, none_differs}
+use Rattle.amr_toc.specs.declared.view.PayloadView.{PayloadView}
+use Rattle.amr_toc.specs.Viewed.{format_of, octets_of, is_damaged}
 use Rattle.amr_toc.proofs.Standing.{aligned_start}
-use Rattle.amr_toc.specs.Told.{IsRefused}
+use Rattle.amr_toc.specs.Told.{IsRead, IsRefused}
 use Rattle.payload_laws.proofs.Entries.{length-bits_of}
 use Rattle.payload_laws.proofs.Formats.{channels_of}
-use Rattle.payload_laws.proofs.Marks.{number-nat}
+use Rattle.payload_laws.proofs.Marks.{number-nat, one_number}
 use Rattle.payload_laws.proofs.Ranges.{find_from}
 use Rattle.spec_payload.specs.declared.refusal.PayloadRefusal.{PayloadRefusal}
 use Rattle.spec_payload.specs.declared.refusal.PayloadRefusal.TheVariants as why
-use Rattle.spec_payload.specs.Grammar.{check_of, text}
-use Rattle.spec_payload.specs.Reading.{entry_start, entry_fault, ends_table, last_entry, entries, types, type_at, more_at, need, checks_start, checks_count, where_grouped, ill, ilp, payload_refusal}
+use Rattle.spec_payload.specs.Grammar.{check_of, checked, layout, text}
+use Rattle.spec_payload.specs.Reading.{entry_start, entry_fault, ends_table, last_entry, entries, types, type_at, more_at, quality_at, need, checks_start, checks_count, checks_at, where_grouped, ill, ilp, is_place, frame_at, frame_bit, value_at, payload_refusal, read_as}
+use Rattle.spec_payload.specs.RobustOrder.{place, order}
+use Rattle.spec_payload.specs.Seen.{seen}
 use Rattle.spec_payload.specs.Values.{Value, IsValue, FitsGroup, has_bits, octet_counts}
 
 -- entry k of a table
@@ -285,9 +292,173 @@ module _ (p : Profile) (v : Value) (aligned : p.octet_aligned ≡ true) (some : 
       by_head true l = omega arith
       by_head false l = omega arith
 
+  quality_is : (k : ℕ) → k < n → quality_at p octets k ≡ (get_or fs k no_data).q
+  quality_is k l =
+      let s = entry_start p k in
+      let e : s + 5 ≡ s + 1 + 1 + 1 + 1 + 1 = omega arith in
+      ap (bit_at octets) e ∙ ap (λ (xs : List Bool). get_or xs 5 false) (entry_is k l)
+
+  -- a CRC stands behind the table
+  at_check : (k : ℕ) → k < length (checks_part p fs) → get_or w (head + n + k) 0 ≡ get_or (checks_part p fs) k 0
+  at_check k l =
+      let a = header_part p v in
+      let t = table_part fs in
+      let c = checks_part p fs in
+      let b = body_part p.sorting fs in
+      let x = length-header p v in
+      let y = length-table fs in
+      let m = length-append (a ++ t) c in
+      let o = length-append a t in
+      let e : head + n ≡ length (a ++ t) = omega arith in
+      get_or_append_left (a ++ t ++ c) b 0 (head + n + k) (omega arith) ∙ ap (λ (z : ℕ). get_or (a ++ t ++ c) (z + k) 0) e ∙ get_or-append-add (a ++ t) c k 0
+
+  -- and an octet of a frame behind the CRCs
+  at_body : (k : ℕ) → get_or w (head + n + length (checks_part p fs) + k) 0 ≡ get_or (body_part p.sorting fs) k 0
+  at_body k =
+      let a = header_part p v in
+      let t = table_part fs in
+      let c = checks_part p fs in
+      let b = body_part p.sorting fs in
+      let x = length-header p v in
+      let y = length-table fs in
+      let m = length-append (a ++ t) c in
+      let o = length-append a t in
+      let e : head + n + length c ≡ length (a ++ t ++ c) = omega arith in
+      ap (λ (z : ℕ). get_or w (z + k) 0) e ∙ get_or-append-add (a ++ t ++ c) b k 0
+
+  checks_from : checks_start p (fts_of fs) ≡ head + n
+  checks_from =
+      let l : length (fts_of fs) ≡ n = length-map fs (λ (f : Frame). f.ft) in
+      let s = aligned_start p (length (fts_of fs)) aligned in
+      omega arith
+
+  -- bit i of frame k
+  bit_is : (k i : ℕ) → k < n → i < length (get_or fs k no_data).bits → get_or (get_or fs k no_data).bits i false ≡ frame_bit p octets (fts_of fs) k i
+  bit_is k i lk li =
+      let fts = fts_of fs in
+      let bits = (get_or fs k no_data).bits in
+      let ls = octet_counts fs in
+      let len : length ls ≡ n = length-map fs (λ (f : Frame). octets_for (length f.bits)) in
+      let size = count_at fs k in
+      let pos = position_or_len (is_place (i / 8) k) (order p.sorting ls) in
+      let there = stands p.sorting ls (i / 8) k (omega arith) (omega arith) in
+      let under = there.0 in
+      let st = body_is p.sorting fs in
+      let here : get_or (body_part p.sorting fs) pos 0 ≡ get_or (filled bits) (i / 8) 0 =
+      ap (λ (xs : List ℕ). get_or xs pos 0) st.are ∙ get_or-map (octet_there fs) (order p.sorting ls) pos (place 0 0) 0 under ∙ ap (octet_there fs) there.1 in
+      let many = st.many in
+      let body = length-body p.sorting fs in
+      let all = long in
+      let j = head + n + length (checks_part p fs) + pos in
+      let eight : bits_at octets (8 * j) 8 ≡ bits_at (filled bits) (8 * (i / 8)) 8 = octet_is j (omega arith) ∙ ap (nat 8) (at_body pos ∙ here) ∙ sym (run-octet (filled bits) (i / 8)) in
+      let from = checks_from in
+      let c = counted p fs h.frames in
+      let front : checks_start p fts + checks_count p fts ≡ head + n + length (checks_part p fs) = omega arith in
+      let at : frame_bit p octets fts k i ≡ bit_at octets (8 * j + i % 8) =
+      ap (λ b. cond b (bit_at octets (8 * (checks_start p fts + checks_count p fts + position_or_len (is_place (i / 8) k) (order p.sorting (map (octets_in p.codec) fts))) + i % 8)) (bit_at octets (entry_start p (length fts) + sum (map (bits_in p.codec) (take k fts)) + i))) aligned
+      ∙ ap (λ (xs : List ℕ). bit_at octets (8 * (checks_start p fts + checks_count p fts + position_or_len (is_place (i / 8) k) (order p.sorting xs)) + i % 8)) (sized p.codec fs h.frames)
+      ∙ ap (λ (z : ℕ). bit_at octets (8 * (z + pos) + i % 8)) front in
+      let few_bits : i % 8 < 8 = omega arith in
+      let whole : 8 * (i / 8) + i % 8 ≡ 0 + i = omega arith in
+      sym (at ∙ sym (run-get octets (8 * j) 8 (i % 8) few_bits) ∙ ap (λ (xs : List Bool). get_or xs (i % 8) false) eight
+      ∙ run-get (filled bits) (8 * (i / 8)) 8 (i % 8) few_bits ∙ ap (bit_at (filled bits)) whole
+      ∙ sym (run-get (filled bits) 0 (length bits) i li) ∙ ap (λ (xs : List Bool). get_or xs i false) (bits-filled bits))
+
+  -- frame k
+  frame_is : (k : ℕ) → k < n → get_or fs k no_data ≡ frame_at p octets (fts_of fs) k
+  frame_is k l =
+      let fts = fts_of fs in
+      let t : (get_or fs k no_data).ft ≡ get_or fts k 0 = sym (get_or-map (λ (f : Frame). f.ft) fs k no_data 0 l) in
+      let size = (known p.codec fs k h.frames l).size in
+      let bs : (get_or fs k no_data).bits ≡ map (frame_bit p octets fts k) (range_with_len 0 (bits_in p.codec (get_or fts k 0))) =
+      fill_by_all (frame_bit p octets fts k) (get_or fs k no_data).bits (bits_in p.codec (get_or fts k 0)) false (size ∙ ap (bits_in p.codec) t)
+      (λ i li. bit_is k i l (let q = ap (bits_in p.codec) t in omega arith)) in
+      λ i. record { ft = t i; q = sym (quality_is k l) i; bits = bs i }
+
+  frames_are : (value_at p octets).frames ≡ fs
+  frames_are =
+      let fts = fts_of fs in
+      ap (λ ts. map (frame_at p octets ts) (range_with_len 0 (length ts))) types_are
+      ∙ ap (λ z. map (frame_at p octets fts) (range_with_len 0 z)) (length-map fs (λ (f : Frame). f.ft))
+      ∙ sym (fill_by_all (frame_at p octets fts) fs n no_data refl frame_is)
+
+  cmr_is : number_at octets 0 4 ≡ v.cmr
+  cmr_is =
+      let o = long in let y = at_least in let c = h.cmr in
+      ap (λ (xs : List Bool). number (take 4 xs)) (octet_is 0 (omega arith) ∙ halves v.cmr 0 (16 * v.cmr) (omega arith) (omega arith)) ∙ number-nat 4 v.cmr (omega arith)
+
+  -- how far apart the blocks stand, and the number in the group
+  grouped_as : (o : Option ℕ) → p.interleaving ≡ o → (cond (is_some o) (ill octets + 1) 1 ≡ v.stride) × (cond (is_some o) (ilp octets) 0 ≡ v.index)
+  grouped_as None e =
+      let g : FitsGroup None h.blocks v = subst (λ (o : Option ℕ). FitsGroup (group_bound o) h.blocks v) e h.group in
+      (sym g.0, sym g.1)
+  grouped_as (Some m) e =
+      let b = ap group_bound e in
+      let g = fits_group _ b in
+      let least = g.0 in
+      let i = ill_is _ b in
+      (omega arith, ilp_is _ b)
+
+  value_is : value_at p octets ≡ v
+  value_is =
+      let g = grouped_as p.interleaving refl in
+      λ i. record { cmr = cmr_is i; stride = g.0 i; index = g.1 i; frames = frames_are i }
+
+  -- the CRCs that are read are those of the frames
+  check_is : ((k : ℕ) → get_or octets k 0 < 256) → (k : ℕ) → k < length (map (check_of p) (checked p fs)) → get_or (map (check_of p) (checked p fs)) k 0 ≡ get_or octets (checks_start p (fts_of fs) + k) 0
+  check_is small k l =
+      let own = checks_are p fs in
+      let len = ap length own in
+      let all = long in
+      let from = checks_from in
+      let j = head + n + k in
+      let inside : j < length octets = omega arith in
+      let e : get_or w j 0 ≡ get_or (map (check_of p) (checked p fs)) k 0 = at_check k (omega arith) ∙ ap (λ (xs : List ℕ). get_or xs k 0) (sym own) in
+      let bits : nat 8 (get_or octets j 0) ≡ nat 8 (get_or (map (check_of p) (checked p fs)) k 0) = sym (run-octet octets j) ∙ octet_is j inside ∙ ap (nat 8) e in
+      sym (one_number 8 (get_or octets j 0) (get_or (map (check_of p) (checked p fs)) k 0) (small j) (check_small p (checked p fs) k) bits)
+      ∙ ap (λ (z : ℕ). get_or octets (z + k) 0) (sym from)
+
+  checks_read : ((k : ℕ) → get_or octets k 0 < 256) → checks_at p octets ≡ map (check_of p) (checked p fs)
+  checks_read small =
+      let fts = fts_of fs in
+      let own = map (check_of p) (checked p fs) in
+      let many : length own ≡ checks_count p fts = ap length (checks_are p fs) ∙ sym (counted p fs h.frames) in
+      ap (λ ts. map (λ (k : ℕ). get_or octets (checks_start p ts + k) 0) (range_with_len 0 (checks_count p ts))) types_are
+      ∙ sym (fill_by_all (λ (k : ℕ). get_or octets (checks_start p fts + k) 0) own (checks_count p fts) 0 many (λ k l. check_is small k (omega arith)))
+
+  -- no frame is damaged
+  pub none_damaged : ((k : ℕ) → get_or octets k 0 < 256) → (k : ℕ)
+      → (p.crc && (has_bits (get_or (value_at p octets).frames k no_data) && not (eqb (get_or (checks_at p octets) (length (filter has_bits (take k (value_at p octets).frames))) 0) (check_of p (get_or (value_at p octets).frames k no_data))))) ≡ false
+  none_damaged small k =
+      (λ i. p.crc && (has_bits (get_or (frames_are i) k no_data) && not (eqb (get_or (checks_read small i) (length (filter has_bits (take k (frames_are i)))) 0) (check_of p (get_or (frames_are i) k no_data)))))
+      ∙ none_differs p fs k
+
+  -- what is seen is the value
+  pub seen_is : ((k : ℕ) → get_or octets k 0 < 256) → seen p (value_at p octets) (checks_at p octets) ≡ v
+  seen_is small = (λ i. seen p (value_is i) (checks_read small i)) ∙ (λ i. record v { frames = checked_marked p fs i })
+
 -- none of the rules refuses the canonical octets
 pub none_refuses : (p : Profile) (v : Value) (why : PayloadRefusal) → IsValid p → p.octet_aligned ≡ true → IsValue p v → IsRefused p (text p v) why → ⊥
 none_refuses p v why valid aligned h refused =
     let none : payload_refusal p (text p v) ≡ None = not_refused p v aligned (channels_of p valid) h (text p v) (bits_of_parts p v aligned h) in
     let both : None ≡ Some why = sym none ∙ refused.first in
     absurd cc
+
+-- and what is read of them is the value
+pub same_value : (p : Profile) (v w : Value) → IsValid p → p.octet_aligned ≡ true → IsValue p v → IsRead p (text p v) w → w ≡ v
+same_value p v w valid aligned h r =
+    let octets = text p v in
+    let same = bits_of_parts p v aligned h in
+    let some = channels_of p valid in
+    let none : payload_refusal p octets ≡ None = not_refused p v aligned some h octets same in
+    let read : read_as p octets ≡ Ok (seen p (value_at p octets) (checks_at p octets)) = rw none refl in
+    let both : Ok w ≡ Ok (seen p (value_at p octets) (checks_at p octets)) = sym r.value ∙ read in
+    let is : w ≡ seen p (value_at p octets) (checks_at p octets) = cc in
+    is ∙ seen_is p v aligned some h octets same (filled-lt (map settled (layout p v (map (check_of p) (checked p v.frames)))))
+
+-- no frame of their view is damaged
+pub undamaged : (view : PayloadView) (v : Value) (k : ℕ) → IsValid (format_of view) → (format_of view).octet_aligned ≡ true → IsValue (format_of view) v → octets_of view ≡ text (format_of view) v → is_damaged view k ≡ false
+undamaged view v k valid aligned h e =
+    let p = format_of view in
+    none_damaged p v aligned (channels_of p valid) h (octets_of view) (ap bits_of e ∙ bits_of_parts p v aligned h)
+    (subst (λ (xs : List ℕ). (k : ℕ) → get_or xs k 0 < 256) (sym e) (filled-lt (map settled (layout p v (map (check_of p) (checked p v.frames)))))) k

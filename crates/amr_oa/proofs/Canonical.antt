@@ -82,7 +82,7 @@ table_is codec (f ∷ g ∷ fs) a =
     ∙ (λ i. entry_is true f a.0.type i ++ table_is codec (g ∷ fs) a.1 i)
 
 -- the CRCs
-checks_are : (p : Profile) (frames : List Frame) → map (check_of p) (checked p frames) ≡ checks_part p frames
+pub checks_are : (p : Profile) (frames : List Frame) → map (check_of p) (checked p frames) ≡ checks_part p frames
 checks_are p frames = by_crc p.crc frames
   where
     one : (b : Bool) (f : Frame) (fs : List Frame) → map (check_of p) (cond b (f ∷ fs) fs) ≡ cond b (check_of p f ∷ []) [] ++ map (check_of p) fs
@@ -104,19 +104,25 @@ octet_bits bits o h =
     ∙ ap (part (8 * o) 8) (settled_padded bits ∙ sym (bits_of_filled bits))
     ∙ sym (run-is_part (filled bits) (8 * o) 8 (omega arith)) ∙ run-octet (filled bits) o
 
+-- the octet at a place of frames
+abbrev pub octet_there : List Frame → Place → ℕ
+octet_there frames p = get_or (filled (get_or frames p.frame no_data).bits) p.octet 0
+
 -- octets that stand at places of frames
-record Stand (frames : List Frame) (places : List Place) (octets : List ℕ) : Type 0 where
+pub record Stand (frames : List Frame) (places : List Place) (octets : List ℕ) : Type 0 where
   pub bits : map settled (flat_map (octet_at frames) places) ≡ bits_of octets
   pub many : length octets ≡ length places
+  pub are : octets ≡ map (octet_there frames) places
 
 stand_none : (frames : List Frame) → Stand frames [] []
-stand_none frames = record { bits = refl; many = refl }
+stand_none frames = record { bits = refl; many = refl; are = refl }
 
 stand_more : (frames : List Frame) (ps qs : List Place) (xs ys : List ℕ) → Stand frames ps xs → Stand frames qs ys → Stand frames (ps ++ qs) (xs ++ ys)
 stand_more frames ps qs xs ys a b = record {
   bits = ap (map settled) (flat_map-append (octet_at frames) ps qs) ∙ map-append settled (flat_map (octet_at frames) ps) (flat_map (octet_at frames) qs)
       ∙ (λ i. a.bits i ++ b.bits i) ∙ sym (flat_map-append (nat 8) xs ys);
   many = let m = a.many in let n = b.many in omega (arith, length-append ps qs, length-append xs ys);
+  are = (λ i. a.are i ++ b.are i) ∙ sym (map-append (octet_there frames) ps qs);
 }
 
 stand_one : (frames : List Frame) (f o : ℕ) → o < octets_for (length (get_or frames f no_data).bits) → Stand frames (place o f ∷ []) (get_or (filled (get_or frames f no_data).bits) o 0 ∷ [])
@@ -125,6 +131,7 @@ stand_one frames f o h =
     record {
       bits = ap (map settled) (append-nil (part (8 * o) 8 (padded (fixed bits)))) ∙ octet_bits bits o h ∙ sym (append-nil (nat 8 (get_or (filled bits) o 0)));
       many = refl;
+      are = refl;
     }
 
 -- pieces of both, one behind the other
@@ -143,7 +150,7 @@ in_frame frames f b (suc n) h =
     (stand_more frames (place b f ∷ []) (map (λ (o : ℕ). place o f) (range_with_len (b + 1) n)) (get_or (filled bits) b 0 ∷ []) rest (stand_one frames f b (omega arith)) (in_frame frames f (b + 1) n (omega arith)))
 
 -- how many octets a frame has, by place
-count_at : (frames : List Frame) (k : ℕ) → get_or (octet_counts frames) k 0 ≡ octets_for (length (get_or frames k no_data).bits)
+pub count_at : (frames : List Frame) (k : ℕ) → get_or (octet_counts frames) k 0 ≡ octets_for (length (get_or frames k no_data).bits)
 count_at [] k = refl
 count_at (f ∷ fs) zero = refl
 count_at (f ∷ fs) (suc k) = count_at fs k
@@ -188,7 +195,7 @@ row_from frames o a (g ∷ gs) h =
         (subst (λ (z : Bool). Stand frames (map (λ (f : ℕ). place o f) places) (cond z (get_or (filled g.bits) o 0 ∷ []) [] ++ row_part gs o)) (sym t) rest)
 
 -- the frames in either order
-body_is : (sorting : Bool) (frames : List Frame) → Stand frames (order sorting (octet_counts frames)) (body_part sorting frames)
+pub body_is : (sorting : Bool) (frames : List Frame) → Stand frames (order sorting (octet_counts frames)) (body_part sorting frames)
 body_is false frames =
     subst (λ (n : ℕ). Stand frames (flat_map (λ (f : ℕ). map (λ (o : ℕ). place o f) (range_with_len 0 (get_or (octet_counts frames) f 0))) (range_with_len 0 n)) (plain_part frames))
     (sym (length-map frames (λ (f : Frame). octets_for (length f.bits)))) (plain_from frames 0 frames (λ k. ap (λ (n : ℕ). get_or frames n no_data) (omega arith)))

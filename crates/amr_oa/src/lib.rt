@@ -8,6 +8,6 @@ mod read;
 mod tests;
 mod write;
 
-pub use laws::accepts_what_was_written;
+pub use laws::reads_what_was_written;
 pub use read::read_oa;
 pub use write::{size_oa, write_oa};

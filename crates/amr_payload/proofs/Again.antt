@@ -1,11 +1,16 @@
 -- Payloads of every format that are written, and written again.
-use Rattle.std.proofs.Common.{◌≡◌, ℕ, ◌<◌, ◌^◌, cond, List, [], ◌∷◌, length, map, take, sym, ap, ◌∙◌, arith, inl, inr}
+use Rattle.std.proofs.Common.{◌≡◌, ℕ, ◌<◌, ◌^◌, false, cond, List, [], ◌∷◌, length, map, take, sym, ap, ◌∙◌, arith, inl, inr}
 use Rattle.std.specs.List.{AllByRecursion}
 use Rattle.std.proofs.lemmas.List.{length-map}
 use Rattle.amr_bits.specs.Bits.{bits_of, number}
 use Rattle.amr_bits.specs.Layout.{fits, settled}
 use Rattle.amr_bits.proofs.Numbers.{number-lt}
-use Rattle.amr_be.proofs.Again.{bits_of_text as packed_bits}
+use Rattle.amr_be.proofs.Again.{bits_of_text as packed_bits, not_refused as packed_accepted, same_value as packed_value, undamaged as packed_undamaged}
+use Rattle.amr_oa.proofs.Accepting.{none_refuses as aligned_accepted, same_value as aligned_value, undamaged as aligned_undamaged}
+use Rattle.amr_toc.specs.declared.view.PayloadView.{PayloadView}
+use Rattle.amr_toc.specs.Told.{IsRead, IsRefused}
+use Rattle.amr_toc.specs.Viewed.{format_of, octets_of, is_damaged}
+use Rattle.spec_payload.specs.declared.refusal.PayloadRefusal.{PayloadRefusal}
 use Rattle.amr_oa.proofs.Canonical.{bits_of_text as aligned_bits}
 use Rattle.amr_frame.specs.declared.profile.Profile.{Profile}
 use Rattle.amr_frame.specs.Frames.{Frame}
@@ -69,3 +74,24 @@ same_size p v octets valid g =
     let m = ap length (bits_are p v g.value) ∙ length-map (layout p v (own_checks p v)) settled in
     let n = fits_length (layout p v (own_checks p v)) (bits_of octets) g.bits in
     omega arith
+
+-- none of the rules refuses them
+pub not_refused : (p : Profile) (v : Value) (why : PayloadRefusal) → IsValid p → IsValue p v → IsRefused p (text p v) why → ⊥
+not_refused p v why valid h r = elim (either p.octet_aligned) [
+  | inl aligned ↦ aligned_accepted p v why valid aligned h r
+  | inr packed ↦ packed_accepted p v why valid packed h r
+]
+
+-- what is read of them is the value
+pub read_again : (p : Profile) (v w : Value) → IsValid p → IsValue p v → IsRead p (text p v) w → w ≡ v
+read_again p v w valid h r = elim (either p.octet_aligned) [
+  | inl aligned ↦ aligned_value p v w valid aligned h r
+  | inr packed ↦ packed_value p v w valid packed h r
+]
+
+-- no frame of their view is damaged
+pub undamaged : (view : PayloadView) (v : Value) (k : ℕ) → IsValid (format_of view) → IsValue (format_of view) v → octets_of view ≡ text (format_of view) v → is_damaged view k ≡ false
+undamaged view v k valid h e = elim (either (format_of view).octet_aligned) [
+  | inl aligned ↦ aligned_undamaged view v k valid aligned h e
+  | inr packed ↦ packed_undamaged view k valid packed
+]

@@ -9,6 +9,6 @@ mod write;
 #[cfg(test)]
 mod write_tests;
 
-pub use laws::{says_what_is_written, writes_what_is_said};
+pub use laws::{reads_what_was_written, says_what_is_written, writes_what_is_said};
 pub use read::read_payload;
 pub use write::{size_payload, write_payload};
