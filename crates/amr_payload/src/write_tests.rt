@@ -144,6 +144,31 @@ fn each_pair_of_types_comes_back(rt: HostRuntime) {
     assert!(rt; pairs == 244);
 }
 
+// An interleaved payload of one frame without bits: the second of two, whose blocks stand two frame times apart.
+fn interleaved(codec: Codec, cell: Cell) -> Option<[u8; 3]>
+    requires present { IsTrue cell.present }
+    requires frame { IsFrame codec (frame_of cell) }
+{
+    let mut profile = format(codec, true, false, false);
+    profile.interleaving = Some(4);
+    if let Err(_) = profile.check() {
+        return None;
+    }
+    let cells = [cell];
+    let payload = Payload {
+        cmr: 3,
+        stride: 2,
+        index: 1,
+        cells: &cells,
+    };
+    if size_payload(&profile, &payload) != 3 {
+        return None;
+    }
+    let mut out = [0xff; 3];
+    write_payload(&profile, &payload, &mut out);
+    Some(out)
+}
+
 // Octets with zeros behind them, so many, and FF behind those.
 fn expected(front: &[u8], size: usize) -> Option<([u8; MOST], usize)> {
     let mut out = [0xff; MOST];
@@ -189,6 +214,7 @@ fn payloads_are_written(rt: HostRuntime) {
                 39
             )
     );
+    assert!(rt; interleaved(Codec::Amr, empty) == Some([0x30, 0x11, 0x7c]));
     assert!(rt;
         written(&format(Codec::Amr, true, false, false), &[sid])
             == expected(&[0xf0, 0x40, 0xff, 0xff, 0xff, 0xff, 0xfe], 7)
