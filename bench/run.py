@@ -18,7 +18,7 @@ WORDS = ["record", "--codec", "AMR"]
 
 
 def once(command, path):
-    """Runs a command on a file by a pipe, and gives wall, user and system seconds and the peak kilobytes."""
+    """Runs a command on a file by a pipe, and gives wall, user and system seconds and its status."""
     feed = subprocess.Popen(["cat", path], stdout=subprocess.PIPE)
     begin = time.perf_counter()
     child = subprocess.Popen(command, stdin=feed.stdout, stdout=subprocess.DEVNULL, stderr=subprocess.DEVNULL)
@@ -27,7 +27,21 @@ def once(command, path):
     wall = time.perf_counter() - begin
     feed.wait()
     child.returncode = os.waitstatus_to_exitcode(status)
-    return wall, used.ru_utime, used.ru_stime, used.ru_maxrss, child.returncode
+    return wall, used.ru_utime, used.ru_stime, child.returncode
+
+
+def peak(command, path):
+    """The most kilobytes that a command held in memory, once it has read all of a file."""
+    child = subprocess.Popen(command, stdin=subprocess.PIPE, stdout=subprocess.DEVNULL, stderr=subprocess.DEVNULL)
+    with open(path, "rb") as log:
+        while piece := log.read(65536):
+            child.stdin.write(piece)
+    child.stdin.flush()
+    with open(f"/proc/{child.pid}/status") as status:
+        kilobytes = [line.split()[1] for line in status if line.startswith("VmHWM")]
+    child.stdin.close()
+    child.wait()
+    return int(kilobytes[0])
 
 
 def main():
@@ -49,8 +63,9 @@ def main():
                     if name not in best or run[1] + run[2] < best[name][1] + best[name][2]:
                         best[name] = run
             floor = best["cat"][1] + best["cat"][2]
-            for name, (wall, user, system, peak, _) in best.items():
-                print(f"{kind:8} {name:8} {size / wall / 1e6:8.0f} {packets / wall:11.0f} {user:7.3f} {system:7.3f} {peak:8} {(user + system) / floor:8.2f}")
+            for name, (wall, user, system, _) in best.items():
+                most = peak(programs[name], path)
+                print(f"{kind:8} {name:8} {size / wall / 1e6:8.0f} {packets / wall:11.0f} {user:7.3f} {system:7.3f} {most:8} {(user + system) / floor:8.2f}")
 
 
 if __name__ == "__main__":

@@ -1,14 +1,13 @@
 -- Payloads that are written and read, and read and written again.
-use Rattle.std.proofs.Common.{◌≡◌, ℕ, suc, ◌+◌, ◌*◌, Bool, true, false, cond, List, [], ◌∷◌, ◌++◌, length, map, replicate, sym, refl, ap, ◌∙◌, arith, Some, None}
+use Rattle.std.proofs.Common.{◌≡◌, ℕ, Bool, true, false, cond, List, [], length, map, sym, refl, ap, ◌∙◌, arith, Some, None}
 use Rattle.std.specs.Prelude.{◌&&◌}
 use Rattle.std.proofs.lemmas.List.{length-map}
-use Rattle.amr_bits.specs.Bits.{bits_of, bits_at, filled}
-use Rattle.amr_bits.specs.Layout.{Mark, fits, settled, same_bit}
-use Rattle.amr_bits.proofs.Filled.{bits-whole, gap, gap_fills, length-filled}
-use Rattle.amr_bits.proofs.Runs.{run-all}
+use Rattle.amr_bits.specs.Bits.{bits_of}
+use Rattle.amr_bits.specs.Layout.{fits, settled}
 use Rattle.amr_be.proofs.Canonical.{settled_layout, text_is}
 use Rattle.amr_frame.specs.declared.profile.Profile.{Profile}
 use Rattle.amr_frame.specs.Profiles.{IsValid}
+use Rattle.amr_toc.proofs.Settled.{cleared_is, fits_length, fits_settled, bits_of_filled}
 use Rattle.amr_toc.specs.Cleared.{cleared}
 use Rattle.amr_toc.specs.declared.view.PayloadView.{PayloadView}
 use Rattle.amr_toc.specs.Told.{IsRead, IsRefused}
@@ -16,7 +15,6 @@ use Rattle.amr_toc.specs.Viewed.{format_of, is_damaged}
 use Rattle.payload_laws.proofs.EachFormat.{not_refused_of}
 use Rattle.payload_laws.proofs.Entries.{length-bits_of}
 use Rattle.payload_laws.proofs.Formats.{plain_of}
-use Rattle.payload_laws.proofs.Marks.{front_bit, same_bit_is}
 use Rattle.payload_laws.proofs.OneValue.{one_value}
 use Rattle.payload_laws.proofs.Seeing.{read_exactly}
 use Rattle.payload_laws.proofs.Whole.{whole}
@@ -25,44 +23,8 @@ use Rattle.spec_payload.specs.Grammar.{IsPayload, layout, text, checked}
 use Rattle.spec_payload.specs.Reading.{payload_refusal}
 use Rattle.spec_payload.specs.Values.{Value, IsValue}
 
--- bits of a layout with the free ones cleared are those that are written
-cleared_is : (marks : List Mark) (bits : List Bool) → fits marks bits ≡ true → cleared marks bits ≡ map settled marks
-cleared_is [] bits e = refl
-cleared_is (m ∷ marks) [] e = absurd cc
-cleared_is (None ∷ marks) (b ∷ bits) e = ap (λ (xs : List Bool). false ∷ xs) (cleared_is marks bits e)
-cleared_is (Some a ∷ marks) (b ∷ bits) e =
-    let f = front_bit (Some a) marks b bits e in
-    let same : b ≡ a = sym (same_bit_is a b f.0) in
-    λ i. same i ∷ cleared_is marks bits f.1 i
-
--- bits are as many as the places of their layout
-fits_length : (marks : List Mark) (bits : List Bool) → fits marks bits ≡ true → length bits ≡ length marks
-fits_length [] [] e = refl
-fits_length [] (b ∷ bits) e = absurd cc
-fits_length (m ∷ marks) [] e = absurd cc
-fits_length (m ∷ marks) (b ∷ bits) e = ap suc (fits_length marks bits (front_bit m marks b bits e).1)
-
--- a bit is itself
-same_self : (b : Bool) → same_bit b b ≡ true
-same_self true = refl
-same_self false = refl
-
--- what is written has its layout
-fits_settled : (marks : List Mark) → fits marks (map settled marks) ≡ true
-fits_settled [] = refl
-fits_settled (None ∷ marks) = fits_settled marks
-fits_settled (Some a ∷ marks) = ap (λ z. cond z (fits marks (map settled marks)) false) (same_self a) ∙ fits_settled marks
-
--- the bits of filled octets
-bits_of_filled : (bits : List Bool) → bits_of (filled bits) ≡ bits ++ replicate (gap bits) false
-bits_of_filled bits =
-    let l = length-filled bits in
-    let f = gap_fills bits in
-    let size : 8 * length (filled bits) ≡ length bits + gap bits = omega arith in
-    sym (run-all (filled bits)) ∙ ap (bits_at (filled bits) 0) size ∙ bits-whole bits (gap bits) f
-
 -- the bits of the canonical octets are those that are written
-bits_of_text : (p : Profile) (v : Value) → p.octet_aligned ≡ false → bits_of (text p v) ≡ map settled (layout p v [])
+pub bits_of_text : (p : Profile) (v : Value) → p.octet_aligned ≡ false → bits_of (text p v) ≡ map settled (layout p v [])
 bits_of_text p v packed = ap bits_of (text_is p v packed) ∙ bits_of_filled (whole v) ∙ sym (settled_layout p v [] packed)
 
 -- they are a payload of the value

@@ -1,38 +1,21 @@
 -- The canonical octets of a bandwidth-efficient payload.
-use Rattle.std.proofs.Common.{◌≡◌, ℕ, zero, suc, ◌+◌, ◌-◌, ◌*◌, ◌≤◌, Bool, false, cond, List, [], ◌∷◌, ◌++◌, length, map, take, replicate, sym, refl, ap, ◌∙◌, arith, Some}
+use Rattle.std.proofs.Common.{◌≡◌, ℕ, ◌+◌, ◌*◌, ◌≤◌, Bool, false, cond, List, [], ◌∷◌, ◌++◌, length, map, take, replicate, sym, ap, ◌∙◌, arith}
 use Rattle.std.specs.List.{AllByRecursion}
-use Rattle.std.proofs.lemmas.List.{length-map, map-append, length-append, take_all, append-nil}
+use Rattle.std.proofs.lemmas.List.{length-append, take_all, append-nil}
 use Rattle.amr_bits.specs.Bits.{nat, bits_at, filled, octets_for}
-use Rattle.amr_bits.specs.Layout.{Mark, fixed, free, padded, settled}
+use Rattle.amr_bits.specs.Layout.{Mark, padded, settled}
 use Rattle.amr_bits.proofs.Filled.{bits-whole, filled-front, filled-lt, gap, gap_fills, length-filled}
 use Rattle.amr_bits.proofs.Numbers.{length-nat}
 use Rattle.amr_be.specs.Parts.{table_part, body_part}
 use Rattle.amr_frame.specs.declared.codec.Codec.{Codec}
 use Rattle.amr_frame.specs.declared.profile.Profile.{Profile}
 use Rattle.amr_frame.specs.Frames.{Frame, IsFrame}
+use Rattle.amr_toc.proofs.Settled.{settled_fixed, settled_padded}
 use Rattle.amr_toc.proofs.Sizes.{most_bits}
 use Rattle.payload_laws.proofs.Entries.{table_bits, table_fixed, length-table}
 use Rattle.payload_laws.proofs.Whole.{body, whole, marks_fixed}
 use Rattle.spec_payload.specs.Grammar.{text, layout, packed_layout, aligned_layout, check_of, checked}
 use Rattle.spec_payload.specs.Values.{Value}
-
--- fixed bits are written as they are
-pub settled_fixed : (bits : List Bool) → map settled (fixed bits) ≡ bits
-settled_fixed [] = refl
-settled_fixed (b ∷ bits) = ap (λ (xs : List Bool). b ∷ xs) (settled_fixed bits)
-
--- free bits are written 0
-pub settled_free : (k : ℕ) → map settled (free k) ≡ replicate k false
-settled_free zero = refl
-settled_free (suc k) = ap (λ (xs : List Bool). false ∷ xs) (settled_free k)
-
--- bits up to a whole octet
-pub settled_padded : (bits : List Bool) → map settled (padded (fixed bits)) ≡ bits ++ replicate (gap bits) false
-settled_padded bits =
-    let n = length (fixed bits) in
-    map-append settled (fixed bits) (free (8 * octets_for n - n))
-    ∙ (λ i. settled_fixed bits i ++ settled_free (8 * octets_for n - n) i)
-    ∙ ap (λ (m : ℕ). bits ++ replicate (8 * octets_for m - m) false) (length-map bits Some)
 
 -- zeros up to a whole octet are what octets are filled with
 pub filled_whole : (bits : List Bool) → filled (bits ++ replicate (gap bits) false) ≡ filled bits

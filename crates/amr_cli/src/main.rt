@@ -9,7 +9,8 @@ mod tests;
 
 use crate::run::run_gateway;
 use crate::status::{Status, number_of};
-use amr_io::{ReadSource, WriteSink};
+use amr_io::{ReadSource, Sink, WriteSink};
+use amr_notes::{LastLine, write_last_line};
 use std::process::ExitCode;
 use std::{env, io};
 
@@ -22,12 +23,15 @@ fn words_of(rt: &HostRuntime) -> io::Result<Vec<String>> {
     Ok(words)
 }
 
-/// The status where the words can't be had: there was no memory for them, or one isn't UTF-8 and so no word of a job.
-fn status_without_words(error: &io::Error) -> Status {
-    match error.kind() {
-        io::ErrorKind::OutOfMemory => Status::OutOfMemory,
-        _ => Status::Usage,
-    }
+/// The status where the words can't be had, with its line in the notes: there was no memory for them, or one isn't UTF-8 and
+/// so no word of a job.
+fn without_words<E: Sink>(error: &io::Error, notes: &mut E) -> Status {
+    let (status, line) = match error.kind() {
+        io::ErrorKind::OutOfMemory => (Status::OutOfMemory, LastLine::OutOfMemory),
+        _ => (Status::Usage, LastLine::Usage),
+    };
+    let _written = write_last_line(notes, line);
+    status
 }
 
 fn main(rt: HostRuntime) -> ExitCode {
@@ -36,7 +40,7 @@ fn main(rt: HostRuntime) -> ExitCode {
     let mut notes = WriteSink::new(rt.stderr());
     let status = match words_of(&rt) {
         Ok(words) => run_gateway(rt.alloc(), &words, &mut input, &mut output, &mut notes),
-        Err(error) => status_without_words(&error),
+        Err(error) => without_words(&error, &mut notes),
     };
     ExitCode::from(number_of(status))
 }

@@ -25,8 +25,10 @@ pub passed_out : (job : RecordJob) (v : View) (octets : List ℕ) (got : Option 
 passed_out job v octets got e = record { out = λ records s. gained_none got _ _ (ap (sent job.plan) (packets_same (recording_of job) records octets e)) }
 
 pub passed_takes : (job : RecordJob) (v : View) (octets : List ℕ) (heard : Heard) → taken_in heard ≡ 0 → length (packets_of job.plan.profile job.pt (octets ∷ [])) ≡ 0 → Takes job v octets heard
-passed_takes job v octets heard z e = record { accepts = λ records s.
-    let same = ap (λ h. length (accepted (rules_in job.plan) h)) (packets_same (recording_of job) records octets e) in omega (arith, same, z) }
+passed_takes job v octets heard z e = record {
+  accepts = λ records s.
+      let same = ap (λ h. length (accepted (rules_in job.plan) h)) (packets_same (recording_of job) records octets e) in omega (arith, same, z);
+}
 
 -- a packet
 pub packet_hears : (job : RecordJob) (v v' : View) (octets : List ℕ) (x : Packet) (r : Result Heard Failed) → OnOk r ((h : List Packet) → StandsFor v h → StandsFor v' (h ++ x ∷ [])) → packet_of job.plan.profile job.pt octets ≡ Some x → OnOk r (Hears job v v' octets)

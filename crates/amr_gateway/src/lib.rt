@@ -7,6 +7,8 @@ mod record;
 mod recorder;
 mod report;
 mod tally;
+#[cfg(test)]
+mod tests;
 
 pub use amr_notes::Counts;
 pub use job::RecordJob;

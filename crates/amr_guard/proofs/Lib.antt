@@ -3,6 +3,6 @@ mod Division
 mod Registers
 mod Whole
 mod Counts
-mod Rows
+pub mod Rows
 mod Plain
 mod Moves

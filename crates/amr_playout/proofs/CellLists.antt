@@ -4,6 +4,7 @@ use Rattle.std.specs.Prelude.{is_some}
 use Rattle.std.specs.List.{AllByRecursion}
 use Rattle.amr_frame.specs.declared.cell.Cell.{Cell}
 use Rattle.amr_frame.specs.declared.codec.Codec.{Codec}
+use Rattle.amr_frame.specs.Blocks.{frames_of}
 use Rattle.amr_frame.specs.Cells.{IsCell, IsCellBy, frame_of, held}
 use Rattle.amr_frame.specs.Frames.{no_data}
 use Rattle.amr_playout.specs.Window.{held_of, item}
@@ -47,6 +48,10 @@ pub all-append : (P : Cell → Type 0) (xs ys : List Cell) → AllByRecursion P 
 all-append P [] ys a b = b
 all-append P (x ∷ xs) ys a b = (a.0, all-append P xs ys a.1 b)
 
+pub all-more : (P : Cell → Type 0) (xs : List Cell) (x : Cell) → AllByRecursion P xs → P x → AllByRecursion P (xs ++ x ∷ [])
+all-more P [] x a p = (p, tt)
+all-more P (y ∷ xs) x a p = (a.0, all-more P xs x a.1 p)
+
 pub all-drop : (P : Cell → Type 0) (n : ℕ) (xs : List Cell) → AllByRecursion P xs → AllByRecursion P (drop n xs)
 all-drop P zero xs a = a
 all-drop P (suc n) [] a = tt
@@ -68,6 +73,10 @@ absent_is codec x p f = by x.present p
 pub length-held : (xs : List Cell) → length (held_of xs) ≡ length xs
 length-held [] = refl
 length-held (x ∷ xs) = ap suc (length-held xs)
+
+pub frames-more : (xs : List Cell) (x : Cell) → frames_of (xs ++ x ∷ []) ≡ frames_of xs ++ frame_of x ∷ []
+frames-more [] x = refl
+frames-more (y ∷ xs) x = ap (λ fs. frame_of y ∷ fs) (frames-more xs x)
 
 -- the cell at a place of the list
 pub slot : (xs : List Cell) (i : ℕ) (x : Cell) → Some x ≡ slice_get xs i → item (held_of xs) i ≡ held x

@@ -3,6 +3,7 @@ pub mod CellLists
 pub mod Cells
 pub mod Counts
 pub mod Holding
+pub mod Jumps
 pub mod Late
 pub mod Nearness
 pub mod Out

@@ -7,6 +7,7 @@ mod advance;
 mod answers;
 mod frames;
 mod judge;
+mod missing;
 mod offer;
 mod place;
 mod plan;

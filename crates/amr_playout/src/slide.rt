@@ -62,6 +62,7 @@ pub fn slide<B: BlockSink>(
         ring,
         plan.profile.codec,
         usize::from(plan.profile.channels),
+        window,
         skip,
         count,
         out,

@@ -85,7 +85,7 @@ fn head(sequence: u16, timestamp: u32) -> Head
 }
 
 // A window of three blocks.
-fn plan() -> Plan
+fn plan(reach: u32) -> Plan
     ensures { result ≡ record {
       profile = record {
         codec = Amr;
@@ -97,7 +97,7 @@ fn plan() -> Plan
         max_blocks = 3;
       };
       window = 3;
-      reach = 100;
+      reach = reach;
     } }
 {
     Plan {
@@ -111,13 +111,13 @@ fn plan() -> Plan
             max_blocks: 3,
         },
         window: 3,
-        reach: 100,
+        reach,
     }
 }
 
 #[test]
 fn the_first_to_arrive_need_not_be_the_earliest(rt: HostRuntime) -> Result<(), Fail> {
-    let plan = plan();
+    let plan = plan(100);
     assert!(rt; plan.check().is_ok());
     let mut receiver = Receiver::create(rt.alloc(), plan)?;
     let mut out = MemoryBlocks::create(rt.alloc(), Codec::Amr, 1, 8)?;
@@ -152,7 +152,7 @@ fn the_first_to_arrive_need_not_be_the_earliest(rt: HostRuntime) -> Result<(), F
 
 #[test]
 fn threes_with_the_last_first_go_out_in_their_order(rt: HostRuntime) -> Result<(), Fail> {
-    let plan = plan();
+    let plan = plan(100);
     assert!(rt; plan.check().is_ok());
     let mut receiver = Receiver::create(rt.alloc(), plan)?;
     let mut out = MemoryBlocks::create(rt.alloc(), Codec::Amr, 1, 1002)?;
@@ -174,6 +174,43 @@ fn threes_with_the_last_first_go_out_in_their_order(rt: HostRuntime) -> Result<(
     assert_eq!(rt; cells.len(), 1002);
     for at in 0..1002u16 {
         assert_eq!(rt; cells[usize::from(at)], frame(7, at).cell, "block {at}");
+    }
+    Ok(())
+}
+
+#[test]
+fn a_jump_puts_out_no_data_between(rt: HostRuntime) -> Result<(), Fail> {
+    let plan = plan(45_000);
+    assert!(rt; plan.check().is_ok());
+    // Inside the window, by all of it, by one more, and as far as a packet may reach.
+    for (ticks, released, blocks) in [
+        (320, 0, 3),
+        (480, 1, 4),
+        (640, 2, 5),
+        (7_200_000, 44_998, 45_001),
+    ] {
+        let mut receiver = Receiver::create(rt.alloc(), plan)?;
+        let mut out = MemoryBlocks::create(rt.alloc(), Codec::Amr, 1, 45_001)?;
+        let Ok(_) = receiver.take(&head(0, 0), &frame(7, 1), &mut out) else {
+            panic!(rt; "the first packet is taken")
+        };
+        let Ok(taken) = receiver.take(&head(1, ticks), &frame(7, 2), &mut out) else {
+            panic!(rt; "the packet after the jump is taken")
+        };
+        assert_eq!(rt; taken.released, released, "at {ticks}");
+        let Ok(_) = receiver.finish(&mut out) else {
+            panic!(rt; "the sink has room")
+        };
+        let cells = out.blocks();
+        assert_eq!(rt; cells.len(), blocks);
+        let [before, between @ .., after] = cells else {
+            panic!(rt; "there are two blocks and more")
+        };
+        assert_eq!(rt; *before, frame(7, 1).cell);
+        assert_eq!(rt; *after, frame(7, 2).cell);
+        for cell in between {
+            assert_eq!(rt; *cell, Cell::no_data(), "at {ticks}");
+        }
     }
     Ok(())
 }

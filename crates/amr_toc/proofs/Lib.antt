@@ -6,6 +6,7 @@ pub mod InPayload
 pub mod Filling
 pub mod Marked
 pub mod Orders
+pub mod Settled
 pub mod Shown
 pub mod Sizes
 pub mod Standing

@@ -9,7 +9,7 @@ use amr_frame::{Codec, class_a_of};
 use amr_guard::crc8;
 
 /// The CRC of a frame of this type that has these bits: over the class A bits, which come first.
-pub(crate) fn check_over(codec: Codec, ft: u8, bits: BitSlice<'_>) -> u8
+pub fn check_over(codec: Codec, ft: u8, bits: BitSlice<'_>) -> u8
     requires type_exists { ft ≤ 15 }
     requires size { bits.len ≡ bits_in codec ft }
     ensures { result ≡ number (crc_of (take (class_a_in codec ft) (run bits.entry))) }

@@ -13,6 +13,7 @@ mod tests;
 mod view;
 mod write;
 
+pub use checks::check_over;
 pub use counts::{bits_before, checks_of, misfit_of, octets_before};
 pub use entry::{Entry, Toc};
 pub use header::{header_octets, interleaving_number};

@@ -41,8 +41,10 @@ returns-in-Ok-clause-accepted g c = λ h stands.
     (accepts (rules_in c.args.receiver.now.plan) h (heard c.args.rtp.now c.args.payload.now) (c.in-Ok.ensures.taken h stands).0 (c.in-Ok.ensures.taken h stands).1)
 
 pub returns-in-Ok-clause-bounded : goal.returns-in-Ok-clause-bounded
-returns-in-Ok-clause-bounded g c = record { bounded = λ n b.
-    bounded_more n c.args.receiver.now c.offer.new.self c.in-Ok.field-0.late c.in-Ok.field-0.copies c.in-Ok.field-0.released (subst IsPlan (sym c.requires.plan) c.requires.served.plan) c.in-Ok.ensures.grows c.in-Ok.ensures.few c.in-Ok.ensures.counts b }
+returns-in-Ok-clause-bounded g c = record {
+  bounded = λ n b.
+      bounded_more n c.args.receiver.now c.offer.new.self c.in-Ok.field-0.late c.in-Ok.field-0.copies c.in-Ok.field-0.released (subst IsPlan (sym c.requires.plan) c.requires.served.plan) c.in-Ok.ensures.grows c.in-Ok.ensures.few c.in-Ok.ensures.counts b;
+}
 
 pub returns-in-Err-BlockFault-clause-part : goal.returns-in-Err-BlockFault-clause-part
 returns-in-Err-BlockFault-clause-part g c = λ h stands.

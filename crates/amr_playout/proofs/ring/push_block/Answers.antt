@@ -1,27 +1,19 @@
-use Rattle.std.proofs.Common.{◌≡◌, ℕ, ◌+◌, ◌<◌, List, ◌++◌, ◌∷◌, [], length, map, take, drop, replicate, get_or, arith, ap, subst, sym, ◌∙◌, IsTrue, refl, Option, None}
+use Rattle.std.proofs.Common.{◌≡◌, ℕ, ◌+◌, ◌<◌, List, ◌++◌, ◌∷◌, [], length, map, take, drop, replicate, get_or, arith, ap, subst, sym, ◌∙◌, IsTrue, Option, None}
 use Rattle.std.specs.List.{AllByRecursion}
 use Rattle.std.proofs.lemmas.List.{map_more}
 use Rattle.amr_frame.specs.Blocks.{frames_of}
 use Rattle.amr_frame.specs.Cells.{IsCell, frame_of, held}
 use Rattle.amr_frame.specs.Frames.{Frame, IsFrame}
 use Rattle.amr_frame.specs.declared.cell.Cell.{Cell}
-use Rattle.amr_playout.proofs.CellLists.{absent_is, all-append, all-drop, all-replicate, held-append, held-drop, held-get, held-replicate, length-held}
+use Rattle.amr_playout.proofs.CellLists.{absent_is, all-append, all-drop, all-more, all-replicate, frames-more, held-append, held-drop, held-get, held-replicate, length-held}
 use Rattle.amr_playout.proofs.Spans.{front_out, length-pushed, popped, pushed}
 use Rattle.amr_playout.specs.Window.{held_of}
 use Rattle.spec_session.specs.Quality.{stored}
 use Rattle.amr_playout.proofs.ring.push_block.Goals as goal
 
-all-both : (P : Cell → Type 0) (xs : List Cell) (x : Cell) → AllByRecursion P xs → P x → AllByRecursion P (xs ++ x ∷ [])
-all-both P [] x a p = (p, tt)
-all-both P (y ∷ xs) x a p = (a.0, all-both P xs x a.1 p)
-
 all-frames : (P : Frame → Type 0) (xs : List Frame) (x : Frame) → AllByRecursion P xs → P x → AllByRecursion P (xs ++ x ∷ [])
 all-frames P [] x a p = (p, tt)
 all-frames P (y ∷ xs) x a p = (a.0, all-frames P xs x a.1 p)
-
-frames-more : (xs : List Cell) (x : Cell) → frames_of (xs ++ x ∷ []) ≡ frames_of xs ++ frame_of x ∷ []
-frames-more [] x = refl
-frames-more (y ∷ xs) x = ap (λ fs. frame_of y ∷ fs) (frames-more xs x)
 
 pub loop-at-preserved : goal.loop-at-preserved
 loop-at-preserved c =
@@ -48,7 +40,7 @@ loop-at-preserved c =
           ∙ ap (λ ys. ys ++ frame_of c.or_no_data.result ∷ []) c.loop-at.invariant.frames
           ∙ ap (λ y. map stored (take k (held_of xs)) ++ y ∷ []) (c.or_no_data.ensures.frame ∙ ap (λ x. stored (held x)) cell ∙ ap stored (sym (held-get xs k d lt)))
           ∙ sym (map_more stored (held_of xs) k _ (omega (arith, length-held xs)));
-      present = subst (AllByRecursion (λ (cell : Cell). IsTrue cell.present)) (sym block) (all-both (λ (cell : Cell). IsTrue cell.present) c.loop-at.block.items c.or_no_data.result c.loop-at.invariant.present c.or_no_data.ensures.present);
+      present = subst (AllByRecursion (λ (cell : Cell). IsTrue cell.present)) (sym block) (all-more (λ (cell : Cell). IsTrue cell.present) c.loop-at.block.items c.or_no_data.result c.loop-at.invariant.present c.or_no_data.ensures.present);
       valid = subst (AllByRecursion (IsFrame c.args.codec)) (sym frames) (all-frames (IsFrame c.args.codec) (frames_of c.loop-at.block.items) (frame_of c.or_no_data.result) c.loop-at.invariant.valid c.or_no_data.ensures.valid);
     }
 

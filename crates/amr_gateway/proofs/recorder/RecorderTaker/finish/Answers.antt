@@ -19,9 +19,9 @@ returns-clause-done g c =
     (λ out kept all hs s.
     let h = packets_of job.plan.profile job.pt hs in (
       told_right job c.args.self.now.tally v.counts c.end_session.new.receiver.counts hs h refl s.tallied
-      (subst (λ (p : Plan). v.counts.late ≡ late_count (rules_in p) h) c.args.self.now.plan s.heard.counted.late)
-      (subst (λ (p : Plan). v.counts.copies ≡ copy_count (rules_in p) h) c.args.self.now.plan s.heard.counted.copies)
-      kept (all h s.heard),
+          (subst (λ (p : Plan). v.counts.late ≡ late_count (rules_in p) h) c.args.self.now.plan s.heard.counted.late)
+          (subst (λ (p : Plan). v.counts.copies ≡ copy_count (rules_in p) h) c.args.self.now.plan s.heard.counted.copies)
+          kept (all h s.heard),
       file_puts job _ _ hs (out h s.heard),
     ))
     c.end_session.ensures.out c.end_session.ensures.kept c.end_session.ensures.all

@@ -13,7 +13,7 @@ returns-clause-failed g c =
     (λ part. (
       part.0,
       subst (λ t. Appends (g.O.Sink.got c.args.output.now) (g.O.Sink.got t) part.0) (sym out)
-      (subst (λ t. Appends (g.O.Sink.got t) (g.O.Sink.got c.begin.new.self.sink.now) part.0) c.new-writer.ensures.now part.3),
+          (subst (λ t. Appends (g.O.Sink.got t) (g.O.Sink.got c.begin.new.self.sink.now) part.0) c.new-writer.ensures.now part.3),
       (part.1, append-nil (header profile.codec profile.channels) ∙ ap (λ n. header profile.codec n) (sym c.new-writer.ensures.format.1) ∙ ap (λ k. header k c.new-writer.result.channels) (sym c.new-writer.ensures.format.0) ∙ part.2),
     ))
     c.begin.ensures.part

@@ -3,7 +3,7 @@ use Rattle.std.specs.List.{AllByRecursion}
 use Rattle.amr_frame.specs.Blocks.{GotBlocks}
 use Rattle.amr_frame.specs.Cells.{IsCell}
 use Rattle.amr_playout.specs.Window.{held_of, rows, slid}
-use Rattle.amr_playout.proofs.advance.advance.Given as goal
+use Rattle.amr_playout.proofs.advance.put_held.Given as goal
 
 abbrev pub invariant-loop-at : goal.invariant-loop-at
 invariant-loop-at g l = record {

@@ -1,0 +1,303 @@
+-- The canonical octets of an octet-aligned payload, part by part.
+use Rattle.std.proofs.Common.{◌≡◌, ℕ, zero, suc, ◌+◌, ◌-◌, ◌*◌, ◌/◌, ◌%◌, ◌<◌, ◌≤◌, Bool, true, false, cond, ltb, nat_eq, List, [], ◌∷◌, ◌++◌, length, map, take, drop, replicate, get_or, sym, refl, ap, subst, ◌∙◌, arith, Option, Some, None}
+use Rattle.std.specs.Prelude.{◌&&◌, is_some, flat_map, filter, sum}
+use Rattle.std.specs.List.{AllByRecursion, range_with_len}
+use Rattle.std.proofs.lemmas.Bool.{ltb-true}
+use Rattle.std.proofs.lemmas.List.{length-map, length-append, map-append, take-map, drop-map, append-nil, append_assoc, take_all}
+use Rattle.std.proofs.lemmas.List.FromFn.{get_or-map-range_with_len}
+use Rattle.std.proofs.lemmas.List.Concat.{flat_map-append}
+use Rattle.std.proofs.lemmas.List.Sums.{sum_by-cons}
+use Rattle.amr_bits.specs.Bits.{nat, bits_of, bits_at, part, filled, octets_for}
+use Rattle.amr_bits.specs.Layout.{Mark, fixed, free, padded, settled}
+use Rattle.amr_bits.proofs.Filled.{octet_of, filled-front, gap, length-filled}
+use Rattle.amr_bits.proofs.Runs.{run-all, run-is_part, run-octet}
+use Rattle.amr_frame.specs.declared.codec.Codec.{Codec}
+use Rattle.amr_frame.specs.declared.profile.Profile.{Profile}
+use Rattle.amr_frame.specs.Frames.{Frame, IsFrame, no_data}
+use Rattle.amr_frame.specs.Profiles.{group_bound}
+use Rattle.amr_guard.proofs.Rows.{length-robust}
+use Rattle.amr_oa.specs.Written.{interleaving_part, header_part, entry_octet, table_part, checks_part, frame_part, plain_part, row_part, longest_of, sorted_part, body_part, written_as}
+use Rattle.amr_toc.proofs.Settled.{settled_fixed, settled_padded, bits_of_filled}
+use Rattle.payload_laws.proofs.Entries.{length-bits_of}
+use Rattle.spec_payload.specs.Grammar.{text, layout, aligned_layout, packed_layout, interleaving_octet, table, entry, octet_at, check_of, checked}
+use Rattle.spec_payload.specs.RobustOrder.{Place, place, order}
+use Rattle.spec_payload.specs.Values.{Value, IsValue, FitsGroup, has_bits, octet_counts}
+
+-- two halves of an octet
+pub halves : (a b v : ℕ) → b < 16 → v ≡ 16 * a + b → nat 8 v ≡ nat 4 a ++ nat 4 b
+halves a b v h e =
+    let one : v / 128 % 2 ≡ a / 8 % 2 = omega arith in
+    let two : v / 64 % 2 ≡ a / 4 % 2 = omega arith in
+    let three : v / 32 % 2 ≡ a / 2 % 2 = omega arith in
+    let four : v / 16 % 2 ≡ a / 1 % 2 = omega arith in
+    let five : v / 8 % 2 ≡ b / 8 % 2 = omega arith in
+    let six : v / 4 % 2 ≡ b / 4 % 2 = omega arith in
+    let seven : v / 2 % 2 ≡ b / 2 % 2 = omega arith in
+    let eight : v / 1 % 2 ≡ b / 1 % 2 = omega arith in
+    λ i. nat_eq (one i) 1 ∷ nat_eq (two i) 1 ∷ nat_eq (three i) 1 ∷ nat_eq (four i) 1 ∷ nat_eq (five i) 1 ∷ nat_eq (six i) 1 ∷ nat_eq (seven i) 1 ∷ nat_eq (eight i) 1 ∷ []
+
+-- ILL and ILP
+grouped : (o : Option ℕ) (blocks : ℕ) (v : Value) → FitsGroup (group_bound o) blocks v → map settled (interleaving_octet o v) ≡ bits_of (interleaving_part o v)
+grouped None blocks v h = refl
+grouped (Some most) blocks v h =
+    let high = h.1 in
+    let low = h.2 in
+    sym (halves (v.stride - 1) v.index (16 * (v.stride - 1) + v.index) (omega arith) refl)
+
+-- an entry, by the bits F and Q
+abbrev pub digit : Bool → ℕ
+digit b = cond b 1 0
+
+small : (b : Bool) → digit b ≤ 1
+small true = omega arith
+small false = omega arith
+
+is_bit : (b : Bool) → nat_eq (digit b) 1 ≡ b
+is_bit true = refl
+is_bit false = refl
+
+pub entry_bits : (more q : Bool) (ft v : ℕ) → ft ≤ 15 → v ≡ 128 * digit more + 8 * ft + 4 * digit q → nat 8 v ≡ more ∷ nat 4 ft ++ q ∷ false ∷ false ∷ []
+entry_bits more q ft v h e =
+    let a = small more in
+    let b = small q in
+    let first : nat_eq (v / 128 % 2) 1 ≡ more = ap (λ (x : ℕ). nat_eq x 1) (omega arith) ∙ is_bit more in
+    let last : nat_eq (v / 4 % 2) 1 ≡ q = ap (λ (x : ℕ). nat_eq x 1) (omega arith) ∙ is_bit q in
+    let one : v / 64 % 2 ≡ ft / 8 % 2 = omega arith in
+    let two : v / 32 % 2 ≡ ft / 4 % 2 = omega arith in
+    let three : v / 16 % 2 ≡ ft / 2 % 2 = omega arith in
+    let four : v / 8 % 2 ≡ ft / 1 % 2 = omega arith in
+    let five : v / 2 % 2 ≡ 0 = omega arith in
+    let six : v / 1 % 2 ≡ 0 = omega arith in
+    λ i. first i ∷ nat_eq (one i) 1 ∷ nat_eq (two i) 1 ∷ nat_eq (three i) 1 ∷ nat_eq (four i) 1 ∷ last i ∷ nat_eq (five i) 1 ∷ nat_eq (six i) 1 ∷ []
+
+entry_is : (more : Bool) (f : Frame) → f.ft ≤ 15 → map settled (entry 2 f more) ≡ nat 8 (entry_octet more f)
+entry_is more f h = sym (entry_bits more f.q f.ft (entry_octet more f) h refl)
+
+-- the table
+table_is : (codec : Codec) (frames : List Frame) → AllByRecursion (IsFrame codec) frames → map settled (table 2 frames) ≡ bits_of (table_part frames)
+table_is codec [] a = refl
+table_is codec (f ∷ []) a = entry_is false f a.0.type
+table_is codec (f ∷ g ∷ fs) a =
+    map-append settled (entry 2 f true) (table 2 (g ∷ fs))
+    ∙ (λ i. entry_is true f a.0.type i ++ table_is codec (g ∷ fs) a.1 i)
+
+-- the CRCs
+pub checks_are : (p : Profile) (frames : List Frame) → map (check_of p) (checked p frames) ≡ checks_part p frames
+checks_are p frames = by_crc p.crc frames
+  where
+    one : (b : Bool) (f : Frame) (fs : List Frame) → map (check_of p) (cond b (f ∷ fs) fs) ≡ cond b (check_of p f ∷ []) [] ++ map (check_of p) fs
+    one true f fs = refl
+    one false f fs = refl
+
+    by_crc : (z : Bool) (fs : List Frame) → map (check_of p) (cond z (filter has_bits fs) []) ≡ flat_map (λ (f : Frame). cond (z && has_bits f) (check_of p f ∷ []) []) fs
+    by_crc true [] = refl
+    by_crc false [] = refl
+    by_crc true (f ∷ fs) = one (has_bits f) f (filter has_bits fs) ∙ ap (λ (xs : List ℕ). cond (has_bits f) (check_of p f ∷ []) [] ++ xs) (by_crc true fs)
+    by_crc false (f ∷ fs) = by_crc false fs
+
+-- the bits of one octet of a frame
+octet_bits : (bits : List Bool) (o : ℕ) → o < octets_for (length bits) → map settled (part (8 * o) 8 (padded (fixed bits))) ≡ nat 8 (get_or (filled bits) o 0)
+octet_bits bits o h =
+    let l = length-filled bits in
+    let marks = padded (fixed bits) in
+    sym (take-map settled 8 (drop (8 * o) marks)) ∙ ap (take 8) (sym (drop-map settled (8 * o) marks))
+    ∙ ap (part (8 * o) 8) (settled_padded bits ∙ sym (bits_of_filled bits))
+    ∙ sym (run-is_part (filled bits) (8 * o) 8 (omega arith)) ∙ run-octet (filled bits) o
+
+-- the octet at a place of frames
+abbrev pub octet_there : List Frame → Place → ℕ
+octet_there frames p = get_or (filled (get_or frames p.frame no_data).bits) p.octet 0
+
+-- octets that stand at places of frames
+pub record Stand (frames : List Frame) (places : List Place) (octets : List ℕ) : Type 0 where
+  pub bits : map settled (flat_map (octet_at frames) places) ≡ bits_of octets
+  pub many : length octets ≡ length places
+  pub are : octets ≡ map (octet_there frames) places
+
+stand_none : (frames : List Frame) → Stand frames [] []
+stand_none frames = record { bits = refl; many = refl; are = refl }
+
+stand_more : (frames : List Frame) (ps qs : List Place) (xs ys : List ℕ) → Stand frames ps xs → Stand frames qs ys → Stand frames (ps ++ qs) (xs ++ ys)
+stand_more frames ps qs xs ys a b = record {
+  bits = ap (map settled) (flat_map-append (octet_at frames) ps qs) ∙ map-append settled (flat_map (octet_at frames) ps) (flat_map (octet_at frames) qs)
+      ∙ (λ i. a.bits i ++ b.bits i) ∙ sym (flat_map-append (nat 8) xs ys);
+  many = let m = a.many in let n = b.many in omega (arith, length-append ps qs, length-append xs ys);
+  are = (λ i. a.are i ++ b.are i) ∙ sym (map-append (octet_there frames) ps qs);
+}
+
+stand_one : (frames : List Frame) (f o : ℕ) → o < octets_for (length (get_or frames f no_data).bits) → Stand frames (place o f ∷ []) (get_or (filled (get_or frames f no_data).bits) o 0 ∷ [])
+stand_one frames f o h =
+    let bits = (get_or frames f no_data).bits in
+    record {
+      bits = ap (map settled) (append-nil (part (8 * o) 8 (padded (fixed bits)))) ∙ octet_bits bits o h ∙ sym (append-nil (nat 8 (get_or (filled bits) o 0)));
+      many = refl;
+      are = refl;
+    }
+
+-- pieces of both, one behind the other
+stand_each : (frames : List Frame) (F : ℕ → List Place) (G : ℕ → List ℕ) (xs : List ℕ) → ((x : ℕ) → Stand frames (F x) (G x)) → Stand frames (flat_map F xs) (flat_map G xs)
+stand_each frames F G [] h = stand_none frames
+stand_each frames F G (x ∷ xs) h = stand_more frames (F x) (flat_map F xs) (G x) (flat_map G xs) (h x) (stand_each frames F G xs h)
+
+-- octets of one frame
+in_frame : (frames : List Frame) (f b n : ℕ) → b + n ≤ octets_for (length (get_or frames f no_data).bits) → Stand frames (map (λ (o : ℕ). place o f) (range_with_len b n)) (map (octet_of (get_or frames f no_data).bits) (range_with_len b n))
+in_frame frames f b zero h = stand_none frames
+in_frame frames f b (suc n) h =
+    let bits = (get_or frames f no_data).bits in
+    let rest = map (octet_of bits) (range_with_len (b + 1) n) in
+    subst (λ (x : ℕ). Stand frames (map (λ (o : ℕ). place o f) (range_with_len b (suc n))) (x ∷ rest))
+    (get_or-map-range_with_len (octet_of bits) 0 (octets_for (length bits)) b b 0 (omega arith) (omega arith))
+    (stand_more frames (place b f ∷ []) (map (λ (o : ℕ). place o f) (range_with_len (b + 1) n)) (get_or (filled bits) b 0 ∷ []) rest (stand_one frames f b (omega arith)) (in_frame frames f (b + 1) n (omega arith)))
+
+-- how many octets a frame has, by place
+pub count_at : (frames : List Frame) (k : ℕ) → get_or (octet_counts frames) k 0 ≡ octets_for (length (get_or frames k no_data).bits)
+count_at [] k = refl
+count_at (f ∷ fs) zero = refl
+count_at (f ∷ fs) (suc k) = count_at fs k
+
+-- the octets of a frame
+whole_frame : (frames : List Frame) (f : ℕ) → Stand frames (map (λ (o : ℕ). place o f) (range_with_len 0 (get_or (octet_counts frames) f 0))) (frame_part (get_or frames f no_data))
+whole_frame frames f =
+    let n = octets_for (length (get_or frames f no_data).bits) in
+    subst (λ (m : ℕ). Stand frames (map (λ (o : ℕ). place o f) (range_with_len 0 m)) (frame_part (get_or frames f no_data))) (sym (count_at frames f)) (in_frame frames f 0 n (omega arith))
+
+-- frames from one on, one behind the other
+plain_from : (frames : List Frame) (a : ℕ) (gs : List Frame) → ((k : ℕ) → get_or frames (a + k) no_data ≡ get_or gs k no_data)
+    → Stand frames (flat_map (λ (f : ℕ). map (λ (o : ℕ). place o f) (range_with_len 0 (get_or (octet_counts frames) f 0))) (range_with_len a (length gs))) (plain_part gs)
+plain_from frames a [] h = stand_none frames
+plain_from frames a (g ∷ gs) h =
+    let row = λ (f : ℕ). map (λ (o : ℕ). place o f) (range_with_len 0 (get_or (octet_counts frames) f 0)) in
+    let here : get_or frames a no_data ≡ g = ap (λ (n : ℕ). get_or frames n no_data) (omega arith) ∙ h 0 in
+    stand_more frames (row a) (flat_map row (range_with_len (a + 1) (length gs))) (frame_part g) (plain_part gs)
+    (subst (λ (f : Frame). Stand frames (row a) (frame_part f)) here (whole_frame frames a))
+    (plain_from frames (a + 1) gs (λ k. ap (λ (n : ℕ). get_or frames n no_data) (omega arith) ∙ h (suc k)))
+
+-- octet o of the frames from one on
+row_from : (frames : List Frame) (o a : ℕ) (gs : List Frame) → ((k : ℕ) → get_or frames (a + k) no_data ≡ get_or gs k no_data)
+    → Stand frames (map (λ (f : ℕ). place o f) (filter (λ (f : ℕ). ltb o (get_or (octet_counts frames) f 0)) (range_with_len a (length gs)))) (row_part gs o)
+row_from frames o a [] h = stand_none frames
+row_from frames o a (g ∷ gs) h =
+    let places = filter (λ (f : ℕ). ltb o (get_or (octet_counts frames) f 0)) (range_with_len (a + 1) (length gs)) in
+    let here : get_or frames a no_data ≡ g = ap (λ (n : ℕ). get_or frames n no_data) (omega arith) ∙ h 0 in
+    let count : get_or (octet_counts frames) a 0 ≡ octets_for (length g.bits) = count_at frames a ∙ ap (λ (f : Frame). octets_for (length f.bits)) here in
+    let rest : Stand frames (map (λ (f : ℕ). place o f) places) (row_part gs o) = row_from frames o (a + 1) gs (λ k. ap (λ (n : ℕ). get_or frames n no_data) (omega arith) ∙ h (suc k)) in
+    by_test (ltb o (octets_for (length g.bits))) refl here count places rest
+  where
+    by_test : (z : Bool) → ltb o (octets_for (length g.bits)) ≡ z → get_or frames a no_data ≡ g → get_or (octet_counts frames) a 0 ≡ octets_for (length g.bits) → (places : List ℕ) → Stand frames (map (λ (f : ℕ). place o f) places) (row_part gs o)
+        → Stand frames (map (λ (f : ℕ). place o f) (cond (ltb o (get_or (octet_counts frames) a 0)) (a ∷ places) places)) (row_part (g ∷ gs) o)
+    by_test true t here count places rest =
+        let one : Stand frames (place o a ∷ []) (get_or (filled g.bits) o 0 ∷ []) = subst (λ (f : Frame). o < octets_for (length f.bits) → Stand frames (place o a ∷ []) (get_or (filled f.bits) o 0 ∷ [])) here (stand_one frames a o) (ltb-true o (octets_for (length g.bits)) t) in
+        subst (λ (z : Bool). Stand frames (map (λ (f : ℕ). place o f) (cond z (a ∷ places) places)) (cond (ltb o (octets_for (length g.bits))) (get_or (filled g.bits) o 0 ∷ []) [] ++ row_part gs o)) (sym (ap (ltb o) count ∙ t))
+        (subst (λ (z : Bool). Stand frames (place o a ∷ map (λ (f : ℕ). place o f) places) (cond z (get_or (filled g.bits) o 0 ∷ []) [] ++ row_part gs o)) (sym t)
+        (stand_more frames (place o a ∷ []) (map (λ (f : ℕ). place o f) places) (get_or (filled g.bits) o 0 ∷ []) (row_part gs o) one rest))
+    by_test false t here count places rest =
+        subst (λ (z : Bool). Stand frames (map (λ (f : ℕ). place o f) (cond z (a ∷ places) places)) (cond (ltb o (octets_for (length g.bits))) (get_or (filled g.bits) o 0 ∷ []) [] ++ row_part gs o)) (sym (ap (ltb o) count ∙ t))
+        (subst (λ (z : Bool). Stand frames (map (λ (f : ℕ). place o f) places) (cond z (get_or (filled g.bits) o 0 ∷ []) [] ++ row_part gs o)) (sym t) rest)
+
+-- the frames in either order
+pub body_is : (sorting : Bool) (frames : List Frame) → Stand frames (order sorting (octet_counts frames)) (body_part sorting frames)
+body_is false frames =
+    subst (λ (n : ℕ). Stand frames (flat_map (λ (f : ℕ). map (λ (o : ℕ). place o f) (range_with_len 0 (get_or (octet_counts frames) f 0))) (range_with_len 0 n)) (plain_part frames))
+    (sym (length-map frames (λ (f : Frame). octets_for (length f.bits)))) (plain_from frames 0 frames (λ k. ap (λ (n : ℕ). get_or frames n no_data) (omega arith)))
+body_is true frames =
+    let counts = octet_counts frames in
+    let row = λ (n o : ℕ). map (λ (f : ℕ). place o f) (filter (λ (f : ℕ). ltb o (get_or counts f 0)) (range_with_len 0 n)) in
+    subst (λ (n : ℕ). Stand frames (flat_map (row n) (range_with_len 0 (longest_of frames))) (sorted_part frames))
+    (sym (length-map frames (λ (f : Frame). octets_for (length f.bits))))
+    (stand_each frames (row (length frames)) (row_part frames) (range_with_len 0 (longest_of frames)) (λ o. row_from frames o 0 frames (λ k. ap (λ (n : ℕ). get_or frames n no_data) (omega arith))))
+
+-- how many octets the frames have
+pub length-plain : (frames : List Frame) → length (plain_part frames) ≡ sum (octet_counts frames)
+length-plain [] = refl
+length-plain (f ∷ fs) =
+    let r = length-plain fs in
+    let s = length-append (filled f.bits) (plain_part fs) in
+    let l = length-filled f.bits in
+    let m = sum_by-cons (λ (x : ℕ). x) (octets_for (length f.bits)) (octet_counts fs) in
+    omega arith
+
+pub length-body : (sorting : Bool) (frames : List Frame) → length (body_part sorting frames) ≡ length (plain_part frames)
+length-body false frames = refl
+length-body true frames = (body_is true frames).many ∙ length-robust (octet_counts frames) ∙ sym (length-plain frames)
+
+-- the parts of a layout as they are written
+parts : (a b c d e f : List Mark) → map settled (a ++ b ++ c ++ d ++ e ++ f) ≡ (map settled a ++ map settled b) ++ map settled c ++ map settled d ++ map settled e ++ map settled f
+parts a b c d e f = simp (map-append, append_assoc)
+
+joined : (a b c d e : List ℕ) → bits_of ((a ++ b) ++ c ++ d ++ e) ≡ bits_of a ++ bits_of b ++ bits_of c ++ bits_of d ++ bits_of e
+joined a b c d e = simp (flat_map-append, append_assoc)
+
+-- the bits of an octet-aligned payload
+pub settled_aligned : (p : Profile) (v : Value) → IsValue p v → map settled (aligned_layout p v (map (check_of p) (checked p v.frames))) ≡ bits_of (written_as p v)
+settled_aligned p v h =
+    let cs = map (check_of p) (checked p v.frames) in
+    let request : map settled (fixed (nat 4 v.cmr)) ++ map settled (free 4) ≡ bits_of ((16 * v.cmr) ∷ []) = sym (halves v.cmr 0 (16 * v.cmr) (omega arith) (omega arith)) in
+    parts (fixed (nat 4 v.cmr)) (free 4) (interleaving_octet p.interleaving v) (table 2 v.frames) (fixed (bits_of cs)) (flat_map (octet_at v.frames) (order p.sorting (octet_counts v.frames)))
+    ∙ (λ i. request i ++ grouped p.interleaving h.blocks v h.group i ++ table_is p.codec v.frames h.frames i ++ (settled_fixed (bits_of cs) ∙ ap bits_of (checks_are p v.frames)) i ++ (body_is p.sorting v.frames).bits i)
+    ∙ sym (joined ((16 * v.cmr) ∷ []) (interleaving_part p.interleaving v) (table_part v.frames) (checks_part p v.frames) (body_part p.sorting v.frames))
+
+pub settled_layout : (p : Profile) (v : Value) → p.octet_aligned ≡ true → IsValue p v → map settled (layout p v (map (check_of p) (checked p v.frames))) ≡ bits_of (written_as p v)
+settled_layout p v aligned h =
+    let cs = map (check_of p) (checked p v.frames) in
+    ap (λ z. map settled (cond z (aligned_layout p v cs) (packed_layout v))) aligned ∙ settled_aligned p v h
+
+-- the canonical octets
+pub text_is : (p : Profile) (v : Value) → p.octet_aligned ≡ true → IsValue p v → text p v ≡ filled (bits_of (written_as p v))
+text_is p v aligned h = ap filled (settled_layout p v aligned h)
+
+-- how many octets a table has
+pub length-table : (frames : List Frame) → length (table_part frames) ≡ length frames
+length-table [] = refl
+length-table (f ∷ []) = refl
+length-table (f ∷ g ∷ fs) = ap suc (length-table (g ∷ fs))
+
+-- and a header
+pub length-header : (p : Profile) (v : Value) → length (header_part p v) ≡ cond (is_some p.interleaving) 2 1
+length-header p v = by p.interleaving
+  where
+    by : (o : Option ℕ) → length ((16 * v.cmr) ∷ interleaving_part o v) ≡ cond (is_some o) 2 1
+    by None = refl
+    by (Some most) = refl
+
+-- and a payload
+pub length-written : (p : Profile) (v : Value) → length (written_as p v) ≡ cond (is_some p.interleaving) 2 1 + length v.frames + length (checks_part p v.frames) + length (plain_part v.frames)
+length-written p v =
+    let a = header_part p v in
+    let t = table_part v.frames in
+    let c = checks_part p v.frames in
+    let b = body_part p.sorting v.frames in
+    let l = length-append (a ++ t ++ c) b in
+    let m = length-append (a ++ t) c in
+    let n = length-append a t in
+    let r = length-header p v in
+    let s = length-table v.frames in
+    let q = length-body p.sorting v.frames in
+    omega arith
+
+pub length-text : (p : Profile) (v : Value) → p.octet_aligned ≡ true → IsValue p v → length (text p v) ≡ cond (is_some p.interleaving) 2 1 + length v.frames + length (checks_part p v.frames) + length (plain_part v.frames)
+length-text p v aligned h =
+    let w = written_as p v in
+    let x = length-bits_of w in
+    let octets : octets_for (length (bits_of w)) ≡ length w = omega arith in
+    ap length (text_is p v aligned h) ∙ length-filled (bits_of w) ∙ octets ∙ length-written p v
+
+-- octets that have these bits
+pub filled_octets : (octets : List ℕ) → ((k : ℕ) → get_or octets k 0 < 256) → filled (bits_of octets) ≡ octets
+filled_octets octets small =
+    let n = length octets in
+    ap filled (sym (run-all octets) ∙ sym (append-nil (bits_at octets 0 (8 * n))))
+    ∙ filled-front octets n [] (omega arith) small
+    ∙ append-nil (take n octets) ∙ take_all n octets (omega arith)
+
+-- the bits of the canonical octets are those that are written
+pub bits_of_text : (p : Profile) (v : Value) → p.octet_aligned ≡ true → IsValue p v → bits_of (text p v) ≡ map settled (layout p v (map (check_of p) (checked p v.frames)))
+bits_of_text p v aligned h =
+    let w = written_as p v in
+    let b = bits_of w in
+    let l = length-bits_of w in
+    let none : gap b ≡ 0 = omega arith in
+    ap bits_of (text_is p v aligned h) ∙ bits_of_filled b ∙ ap (λ (n : ℕ). b ++ replicate n false) none ∙ append-nil b ∙ sym (settled_layout p v aligned h)
+
+-- and those of its parts
+pub bits_of_parts : (p : Profile) (v : Value) → p.octet_aligned ≡ true → IsValue p v → bits_of (text p v) ≡ bits_of (written_as p v)
+bits_of_parts p v aligned h = bits_of_text p v aligned h ∙ settled_layout p v aligned h

@@ -1,0 +1,8 @@
+use Rattle.std.proofs.Common.{drop}
+use Rattle.amr_frame.specs.Blocks.{frames_of}
+use Rattle.amr_oa.specs.Written.{plain_part}
+use Rattle.amr_oa.proofs.Pieces.{Wrote}
+use Rattle.amr_oa.proofs.body.put_plain.Given as goal
+
+abbrev pub invariant-loop-cell : goal.invariant-loop-cell
+invariant-loop-cell l = Wrote l.initial.out l.start (plain_part (frames_of l.cells)) l.out l.at (plain_part (frames_of (drop l.cell-index l.cells)))

@@ -1,0 +1,138 @@
+ghost use Rattle.std.specs.Prelude.{◌≡◌, ◌+◌, ◌≤◌, ◌<◌, ◌++◌, ◌∷◌, [], cond, is_some, length, slice_index, take, true, ℕ};
+ghost use Rattle.std.specs.List.{AllByRecursion};
+ghost use Rattle.amr_frame.specs.Blocks.{frames_of};
+ghost use Rattle.amr_frame.specs.Cells.{frame_of};
+ghost use Rattle.amr_frame.specs.Frames.{IsFrame};
+ghost use Rattle.amr_frame.specs.Profiles.{IsValid};
+ghost use Rattle.amr_oa.specs.Written.{check_part, checks_part, entry_octet, header_part, table_part};
+ghost use Rattle.amr_toc.specs.Payloads.{IsCarried, meant};
+ghost use Rattle.spec_payload.specs.Grammar.{check_of, text};
+
+use crate::body::{body_octets, put_bodies};
+use amr_frame::{Cell, Profile};
+use amr_toc::{Payload, check_over, entries_within, header_octets};
+
+/// How many octets an octet-aligned payload has.
+pub fn size_oa(profile: &Profile, payload: &Payload<'_>) -> usize
+    requires valid { IsValid profile.now }
+    requires aligned { profile.now.octet_aligned ≡ true }
+    requires payload { IsCarried profile.now payload.now }
+
+    ensures size { result ≡ length (text profile.now (meant payload.now)) }
+    ensures some { 1 ≤ result }
+    ensures most { result ≤ 23810 }
+{
+    entries_within(profile);
+    let cells = payload.cells;
+    header_octets(profile) + cells.len() + check_octets(profile, cells) + body_octets(cells)
+}
+
+/// How many CRCs the frames of cells have.
+fn check_octets(profile: &Profile, cells: &[Cell]) -> usize
+    ensures count { result ≡ length (checks_part profile.now (frames_of cells.now)) }
+    ensures most { result ≤ length cells.now }
+{
+    let mut checks = 0;
+    for cell in cells {
+        if has_check(profile, cell) {
+            checks += 1;
+        }
+    }
+    checks
+}
+
+/// Whether the frame of a cell has a CRC.
+fn has_check(profile: &Profile, cell: &Cell) -> bool
+    ensures { check_part profile.now (frame_of cell.now) ≡ cond result (check_of profile.now (frame_of cell.now) ∷ []) [] }
+{
+    profile.crc && cell.bits.len() > 0
+}
+
+/// Writes an octet-aligned payload, with the free bits 0. All of `out` is then the payload.
+pub fn write_oa(profile: &Profile, payload: &Payload<'_>, out: &mut [u8])
+    requires valid { IsValid profile.now }
+    requires aligned { profile.now.octet_aligned ≡ true }
+    requires payload { IsCarried profile.now payload.now }
+    requires size { length out.old ≡ length (text profile.now (meant payload.now)) }
+
+    ensures { out.new ≡ text profile.now (meant payload.now) }
+{
+    entries_within(profile);
+    let table = put_header(profile, payload, out);
+    let checks = put_table(profile, payload.cells, table, out);
+    let body = put_checks(profile, payload.cells, checks, out);
+    put_bodies(profile, payload.cells, body, out);
+    are_octets(out);
+}
+
+/// Writes what stands before the table, and gives the place behind it (RFC 4867, 4.4.1).
+fn put_header(profile: &Profile, payload: &Payload<'_>, out: &mut [u8]) -> usize
+    requires cmr { payload.now.cmr ≤ 15 }
+    requires some { 1 ≤ payload.now.stride }
+    requires most { payload.now.stride ≤ 16 }
+    requires index { payload.now.index < payload.now.stride }
+    requires fits { cond (is_some profile.now.interleaving) 2 1 ≤ length out.old }
+    ensures at { result ≡ cond (is_some profile.now.interleaving) 2 1 }
+    ensures octets { take result out.new ≡ header_part profile.now (meant payload.now) }
+{
+    out[0] = 16 * payload.cmr;
+    if profile.interleaving.is_none() {
+        return 1;
+    }
+    out[1] = 16 * (payload.stride - 1) + payload.index;
+    2
+}
+
+/// Writes the table of contents of cells at an octet, and gives the place behind it (RFC 4867, 4.4.2).
+fn put_table(profile: &Profile, cells: &[Cell], start: usize, out: &mut [u8]) -> usize
+    requires frames { AllByRecursion (IsFrame profile.now.codec) (frames_of cells.now) }
+    requires fits { start + length cells.now ≤ length out.old }
+    ensures at { result ≡ start + length cells.now }
+    ensures octets { take result out.new ≡ take start out.old ++ table_part (frames_of cells.now) }
+{
+    for k in 0..cells.len() {
+        out[start + k] = entry_of(profile, &cells[k], k + 1 < cells.len());
+    }
+    start + cells.len()
+}
+
+/// The entry of a cell, with F = 1 where more entries follow.
+fn entry_of(profile: &Profile, cell: &Cell, more: bool) -> u8
+    requires { IsFrame profile.now.codec (frame_of cell.now) }
+    ensures { result ≡ entry_octet more (frame_of cell.now) }
+{
+    128 * more as u8 + 8 * cell.ft + 4 * cell.q as u8
+}
+
+/// Writes the CRCs of cells at an octet, and gives the place behind them (RFC 4867, 4.4.2.1).
+fn put_checks(profile: &Profile, cells: &[Cell], start: usize, out: &mut [u8]) -> usize
+    requires frames { AllByRecursion (IsFrame profile.now.codec) (frames_of cells.now) }
+    requires fits { start + length (checks_part profile.now (frames_of cells.now)) ≤ length out.old }
+    ensures at { result ≡ start + length (checks_part profile.now (frames_of cells.now)) }
+    ensures octets { take result out.new ≡ take start out.old ++ checks_part profile.now (frames_of cells.now) }
+{
+    let mut at = start;
+    for cell in cells {
+        at = put_check(profile, cell, at, out);
+    }
+    at
+}
+
+/// Writes the CRC of a cell at an octet, where it has one, and gives the place behind it.
+fn put_check(profile: &Profile, cell: &Cell, at: usize, out: &mut [u8]) -> usize
+    requires frame { IsFrame profile.now.codec (frame_of cell.now) }
+    requires fits { at + length (check_part profile.now (frame_of cell.now)) ≤ length out.old }
+    ensures at { result ≡ at + length (check_part profile.now (frame_of cell.now)) }
+    ensures octets { take result out.new ≡ take at out.old ++ check_part profile.now (frame_of cell.now) }
+{
+    if !has_check(profile, cell) {
+        return at;
+    }
+    out[at] = check_over(profile.codec, cell.ft, cell.bits.as_bits());
+    at + 1
+}
+
+/// Each octet is below 256. Says so, and does nothing.
+fn are_octets(octets: &[u8])
+    ensures { (k : ℕ) → slice_index octets.now k < 256 }
+{}
