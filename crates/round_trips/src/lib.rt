@@ -1,0 +1,7 @@
+//! Laws that need both the readers and the writers of payloads, and the grammar. Each is the contract of a function that
+//! does nothing.
+#![tactic(auto)]
+
+mod again;
+
+pub use again::writes_what_was_read;
