@@ -1,9 +1,13 @@
 //! Records packet logs of AMR and AMR-WB speech as storage files.
 #![tactic(auto)]
 
+#[cfg(test)]
+mod fault_tests;
 mod job;
 mod run;
 mod status;
+#[cfg(test)]
+mod test_logs;
 #[cfg(test)]
 mod tests;
 

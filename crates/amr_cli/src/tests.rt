@@ -1,72 +1,10 @@
 use crate::run::run_gateway;
 use crate::status::Status;
+use crate::test_logs::{HEAD, Parts, RECORD, at, join, log_of, words_of};
 use amr_io::{MemorySink, MemorySource};
-use std::alloc::{AllocError, Global};
+use std::alloc::Global;
 use std::process::Abort;
 use std::test::Fail;
-
-// Octets by parts: some octets, and so many zeros behind them.
-type Parts<'a> = &'a [(&'a [u8], u16)];
-
-fn join(alloc: Global, parts: Parts<'_>) -> Result<Vec<u8>, AllocError> {
-    let mut all = Vec::new(alloc);
-    for (octets, zeros) in parts {
-        all.extend_from_slice(octets)?;
-        for _ in 0..*zeros {
-            all.push(0)?;
-        }
-    }
-    Ok(all)
-}
-
-// An RTP packet of version 2 with payload type 96 and no marker.
-#[derive(Clone, Copy)]
-struct Packet<'a> {
-    sequence: u16,
-    timestamp: u32,
-    ssrc: u32,
-    payload: Parts<'a>,
-}
-
-// Appends the record of a packet.
-fn record(log: &mut Vec<u8>, packet: &Packet<'_>, payload: &[u8]) -> Result<(), AllocError> {
-    let length = payload.len().min(999) as u16 + 12;
-    log.extend_from_slice(&length.to_be_bytes())?;
-    log.extend_from_slice(&[0x80, 0x60])?;
-    log.extend_from_slice(&packet.sequence.to_be_bytes())?;
-    log.extend_from_slice(&packet.timestamp.to_be_bytes())?;
-    log.extend_from_slice(&packet.ssrc.to_be_bytes())?;
-    log.extend_from_slice(payload)
-}
-
-fn log_of(alloc: Global, packets: &[Packet<'_>]) -> Result<Vec<u8>, AllocError> {
-    let mut log = Vec::new(alloc);
-    for packet in packets {
-        let payload = join(alloc, packet.payload)?;
-        record(&mut log, packet, &payload)?;
-    }
-    Ok(log)
-}
-
-// A packet of the one source.
-fn at<'a>(sequence: u16, timestamp: u32, payload: Parts<'a>) -> Packet<'a> {
-    Packet {
-        sequence,
-        timestamp,
-        ssrc: 0,
-        payload,
-    }
-}
-
-fn words_of(alloc: Global, line: &str) -> Result<Vec<String>, AllocError> {
-    let mut words = Vec::new(alloc);
-    for word in line.split(' ') {
-        words.push(String::from_str(alloc, word)?)?;
-    }
-    Ok(words)
-}
-
-const RECORD: &str = "record --codec AMR";
 
 // Room for the longest file here.
 const ROOM: usize = 46_000;
@@ -93,9 +31,6 @@ fn expect(
     }
     Ok(())
 }
-
-// The header of a file of AMR frames of one channel.
-const HEAD: &[u8] = b"#!AMR\n";
 
 #[test]
 fn a_packet_gives_its_frame(rt: HostRuntime) -> Result<(), Fail> {
@@ -430,80 +365,6 @@ fn other_words_are_a_usage_fault(rt: HostRuntime) -> Result<(), Fail> {
             &[],
             "usage: record, stream, convert, list, answer or trial, then pairs of an option and its value\n",
         )?;
-    }
-    Ok(())
-}
-
-// What a run put out that met a fault, and what it noted.
-fn run_with(
-    rt: &(impl Abort + Alloc<A = Global>),
-    line: &str,
-    log: &[u8],
-    reads: &[u64],
-    writes: &[u64],
-    notes: &[u64],
-) -> Result<(Status, usize, usize), Fail> {
-    let words = words_of(rt.alloc(), line)?;
-    let mut input = MemorySource::create(rt.alloc(), log, 1, reads)?;
-    let mut output = MemorySink::create(rt.alloc(), 999, 1, writes)?;
-    let mut told = MemorySink::create(rt.alloc(), 999, 999, notes)?;
-    let ended = run_gateway(rt.alloc(), &words, &mut input, &mut output, &mut told);
-    Ok((ended, output.octets().len(), told.octets().len()))
-}
-
-#[test]
-fn faults_leave_a_front_of_the_file(rt: HostRuntime) -> Result<(), Fail> {
-    let seven: Parts<'_> = &[(&[0xF3, 0xC0], 30)];
-    let four: Parts<'_> = &[(&[0xF2, 0x40], 18)];
-    let two: Parts<'_> = &[(&[0xF1, 0x40], 14)];
-    let log = log_of(
-        rt.alloc(),
-        &[at(2, 320, two), at(0, 0, seven), at(1, 160, four)],
-    )?;
-    let line = "record --codec AMR --window 3";
-    // A log of 110 octets: whatever read fails, the header is out, and nothing else has left the window.
-    for failing in 0..111u64 {
-        let (status, written, noted) = run_with(&rt, line, &log, &[failing], &[], &[])?;
-        assert_eq!(rt; status, Status::ReadFault, "read {failing}");
-        assert_eq!(rt; written, 6usize, "read {failing}");
-        assert_eq!(rt; noted, 11usize, "read {failing}");
-    }
-    // A file of 74 octets, written one by one: the octets before the failing write are out.
-    for failing in 0..74u64 {
-        let (status, written, noted) = run_with(&rt, line, &log, &[], &[failing], &[])?;
-        assert_eq!(rt; status, Status::WriteFault, "write {failing}");
-        assert_eq!(rt; written as u64, failing, "write {failing}");
-        assert_eq!(rt; noted, 12usize, "write {failing}");
-    }
-    // Without a fault, and with notes that fail.
-    let (status, written, noted) = run_with(&rt, line, &log, &[], &[], &[])?;
-    assert_eq!(rt; status, Status::Done);
-    assert_eq!(rt; written, 74usize);
-    assert_eq!(rt; noted, 73usize);
-    let (status, written, noted) = run_with(&rt, line, &log, &[], &[], &[0])?;
-    assert_eq!(rt; status, Status::WriteFault);
-    assert_eq!(rt; written, 74usize);
-    assert_eq!(rt; noted, 0usize);
-    Ok(())
-}
-
-#[test]
-fn a_log_cut_anywhere_is_told(rt: HostRuntime) -> Result<(), Fail> {
-    let log = log_of(rt.alloc(), &[at(0, 0, &[(&[0xF3, 0xC0], 30)])])?;
-    let mut length = 0usize;
-    for _ in 0..46 {
-        if log.len() < length {
-            break;
-        }
-        let (status, written, _) = run_with(&rt, RECORD, &log[..length], &[], &[], &[])?;
-        let wanted = if length == 0 {
-            Status::Done
-        } else {
-            Status::InputRefused
-        };
-        assert_eq!(rt; status, wanted, "{length} octets");
-        assert_eq!(rt; written, 6usize, "{length} octets");
-        length += 1;
     }
     Ok(())
 }

@@ -1,0 +1,107 @@
+use crate::run::run_gateway;
+use crate::status::Status;
+use crate::test_logs::{Parts, RECORD, at, log_of, words_of};
+use amr_io::{MemorySink, MemorySource};
+use std::alloc::Global;
+use std::process::Abort;
+use std::test::Fail;
+
+// What a run put out that met a fault, and what it noted.
+fn run_with(
+    rt: &(impl Abort + Alloc<A = Global>),
+    line: &str,
+    log: &[u8],
+    reads: &[u64],
+    writes: &[u64],
+    notes: &[u64],
+) -> Result<(Status, usize, usize), Fail> {
+    let words = words_of(rt.alloc(), line)?;
+    let mut input = MemorySource::create(rt.alloc(), log, 1, reads)?;
+    let mut output = MemorySink::create(rt.alloc(), 999, 1, writes)?;
+    let mut told = MemorySink::create(rt.alloc(), 999, 999, notes)?;
+    let ended = run_gateway(rt.alloc(), &words, &mut input, &mut output, &mut told);
+    Ok((ended, output.octets().len(), told.octets().len()))
+}
+
+#[test]
+fn faults_leave_a_front_of_the_file(rt: HostRuntime) -> Result<(), Fail> {
+    let seven: Parts<'_> = &[(&[0xF3, 0xC0], 30)];
+    let four: Parts<'_> = &[(&[0xF2, 0x40], 18)];
+    let two: Parts<'_> = &[(&[0xF1, 0x40], 14)];
+    let log = log_of(
+        rt.alloc(),
+        &[at(2, 320, two), at(0, 0, seven), at(1, 160, four)],
+    )?;
+    let line = "record --codec AMR --window 3";
+    // A log of 110 octets: whatever read fails, the header is out, and nothing else has left the window.
+    for failing in 0..111u64 {
+        let (status, written, noted) = run_with(&rt, line, &log, &[failing], &[], &[])?;
+        assert_eq!(rt; status, Status::ReadFault, "read {failing}");
+        assert_eq!(rt; written, 6usize, "read {failing}");
+        assert_eq!(rt; noted, 11usize, "read {failing}");
+    }
+    // A file of 74 octets, written one by one: the octets before the failing write are out.
+    for failing in 0..74u64 {
+        let (status, written, noted) = run_with(&rt, line, &log, &[], &[failing], &[])?;
+        assert_eq!(rt; status, Status::WriteFault, "write {failing}");
+        assert_eq!(rt; written as u64, failing, "write {failing}");
+        assert_eq!(rt; noted, 12usize, "write {failing}");
+    }
+    // Without a fault, and with notes that fail.
+    let (status, written, noted) = run_with(&rt, line, &log, &[], &[], &[])?;
+    assert_eq!(rt; status, Status::Done);
+    assert_eq!(rt; written, 74usize);
+    assert_eq!(rt; noted, 73usize);
+    let (status, written, noted) = run_with(&rt, line, &log, &[], &[], &[0])?;
+    assert_eq!(rt; status, Status::WriteFault);
+    assert_eq!(rt; written, 74usize);
+    assert_eq!(rt; noted, 0usize);
+    Ok(())
+}
+
+#[test]
+fn a_log_cut_anywhere_is_told(rt: HostRuntime) -> Result<(), Fail> {
+    let log = log_of(rt.alloc(), &[at(0, 0, &[(&[0xF3, 0xC0], 30)])])?;
+    let mut length = 0usize;
+    for _ in 0..46 {
+        if log.len() < length {
+            break;
+        }
+        let (status, written, _) = run_with(&rt, RECORD, &log[..length], &[], &[], &[])?;
+        let wanted = if length == 0 {
+            Status::Done
+        } else {
+            Status::InputRefused
+        };
+        assert_eq!(rt; status, wanted, "{length} octets");
+        assert_eq!(rt; written, 6usize, "{length} octets");
+        length += 1;
+    }
+    Ok(())
+}
+
+#[test]
+fn a_gap_is_kept_back_by_the_window(rt: HostRuntime) -> Result<(), Fail> {
+    let seven: Parts<'_> = &[(&[0xF3, 0xC0], 30)];
+    let log = log_of(rt.alloc(), &[at(0, 0, seven), at(1, 480, seven)])?;
+    // Two records of 46 octets, and a file of 72: with a window of 256 nothing but the header is out before the end.
+    for failing in 0..93u64 {
+        let (status, written, _) = run_with(&rt, RECORD, &log, &[failing], &[], &[])?;
+        assert_eq!(rt; status, Status::ReadFault, "read {failing}");
+        assert_eq!(rt; written, 6usize, "read {failing}");
+    }
+    // With a window of one block the first three blocks have gone out once the second record is whole: 34 octets.
+    let narrow = "record --codec AMR --window 1";
+    for failing in 0..93u64 {
+        let (status, written, _) = run_with(&rt, narrow, &log, &[failing], &[], &[])?;
+        let wanted = if failing < 92 { 6usize } else { 40 };
+        assert_eq!(rt; status, Status::ReadFault, "read {failing}");
+        assert_eq!(rt; written, wanted, "read {failing}");
+    }
+    for failing in 0..72u64 {
+        let (status, written, _) = run_with(&rt, narrow, &log, &[], &[failing], &[])?;
+        assert_eq!(rt; status, Status::WriteFault, "write {failing}");
+        assert_eq!(rt; written as u64, failing, "write {failing}");
+    }
+    Ok(())
+}
