@@ -31,7 +31,7 @@ pub fn read_be<'a>(profile: &Profile, octets: &'a [u8]) -> Result<PayloadView<'a
 }
 
 /// Reads the table of a payload that isn't refused.
-fn accept(profile: &Profile, octets: &[u8]) -> Result<Toc, PayloadRefusal>
+fn accept<'a>(profile: &Profile, octets: &'a [u8]) -> Result<Toc<'a>, PayloadRefusal>
     requires valid { IsValid profile.now }
     requires packed { profile.now.octet_aligned ≡ false }
 
@@ -70,7 +70,7 @@ fn behind_header<'a>(octets: &'a [u8]) -> BitSlice<'a>
 }
 
 /// How many octets a payload with this table has.
-fn need_of(profile: &Profile, toc: &Toc) -> usize
+fn need_of(profile: &Profile, toc: &Toc<'_>) -> usize
     ensures { result ≡ need_by profile.now.codec (listed toc.now) }
 {
     let entries = toc.len();

@@ -34,7 +34,7 @@ pub fn read_oa<'a>(profile: &Profile, octets: &'a [u8]) -> Result<PayloadView<'a
 }
 
 /// Reads the table of a payload that isn't refused.
-fn accept(profile: &Profile, octets: &[u8]) -> Result<Toc, PayloadRefusal>
+fn accept<'a>(profile: &Profile, octets: &'a [u8]) -> Result<Toc<'a>, PayloadRefusal>
     requires valid { IsValid profile.now }
     requires aligned { profile.now.octet_aligned ≡ true }
 
@@ -83,7 +83,7 @@ fn header_fault(profile: &Profile, octets: &[u8]) -> Option<PayloadRefusal>
 }
 
 /// Whether the payload's interleaving group is too large: P8.
-fn group_fault(profile: &Profile, octets: &[u8], toc: &Toc) -> Option<PayloadRefusal>
+fn group_fault(profile: &Profile, octets: &[u8], toc: &Toc<'_>) -> Option<PayloadRefusal>
     requires channels { 0 < profile.now.channels }
     requires header { cond (is_some profile.now.interleaving) 2 1 ≤ length octets.now }
     ensures { result ≡ group_refusal profile.now octets.now (length (listed toc.now) / profile.now.channels) }
@@ -116,7 +116,7 @@ fn behind_header<'a>(profile: &Profile, octets: &'a [u8]) -> BitSlice<'a>
 }
 
 /// How many octets a payload with this table has.
-fn need_of(profile: &Profile, toc: &Toc) -> usize
+fn need_of(profile: &Profile, toc: &Toc<'_>) -> usize
     requires { profile.now.octet_aligned ≡ true }
     ensures { result ≡ need profile.now (types_of (listed toc.now)) }
 {

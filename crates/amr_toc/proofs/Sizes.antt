@@ -8,6 +8,7 @@ use Rattle.std.proofs.lemmas.List.Sums.{sum-map, sum_by-cons, length-filter}
 use Rattle.std.proofs.lemmas.Simd.{map-map}
 use Rattle.std.specs.Prelude.{sum, filter}
 use Rattle.amr_bits.specs.Bits.{number}
+use Rattle.amr_bits.specs.Runs.{run}
 use Rattle.amr_frame.specs.declared.codec.Codec.{Codec}
 use Rattle.amr_frame.specs.declared.codec.Codec.TheVariants.{Amr, AmrWb}
 use Rattle.amr_frame.specs.declared.codec.Kind.TheVariants.{Reserved}
@@ -15,7 +16,8 @@ use Rattle.amr_frame.specs.Tables.{Row, rows, bits_in, octets_in}
 use Rattle.payload_laws.proofs.Ranges.{four_below}
 use Rattle.amr_toc.specs.declared.entry.Entry.{Entry}
 use Rattle.amr_toc.specs.Entries.{HasTypes}
-use Rattle.amr_toc.specs.Lists.{types_of}
+use Rattle.amr_toc.specs.declared.entry.Toc.{Toc}
+use Rattle.amr_toc.specs.Lists.{listed, types_of}
 use Rattle.amr_toc.specs.Table.{entry_of}
 
 -- at most four bits spell a number below 16
@@ -31,6 +33,10 @@ pub small_types : (width : ℕ) (bits : List Bool) (n : ℕ) → HasTypes (map (
 small_types width bits n k other h =
     let l = length-map-range_with_len (entry_of width bits) 0 n in
     subst (λ (e : Entry). e.ft ≤ 15) (sym (get_or-map-range_with_len (entry_of width bits) 0 n k k other (omega arith) (omega arith))) (four_small (drop (k * width + 1) bits))
+
+-- a table lists as many entries as it has
+pub listed_count : (toc : Toc) → length (listed toc) ≡ toc.entries
+listed_count toc = length-map-range_with_len (entry_of toc.width (run toc.bits)) 0 toc.entries
 
 -- whether no row has more than 477 bits
 abbrev few_bits : List Row → Bool

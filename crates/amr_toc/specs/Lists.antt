@@ -1,14 +1,16 @@
 -- The entries that a table of contents lists, and those that octets have.
 use Rattle.std.specs.Prelude.{ℕ, List, map}
 use Rattle.std.specs.List.{range_with_len}
+use Rattle.amr_bits.specs.Runs.{run}
 use Rattle.amr_frame.specs.declared.profile.Profile.{Profile}
 use Rattle.amr_toc.specs.declared.entry.Entry.{Entry}
 use Rattle.amr_toc.specs.declared.entry.Toc.{Toc}
+use Rattle.amr_toc.specs.Table.{entry_of}
 use Rattle.spec_payload.specs.Reading.{entries, type_at, quality_at}
 
 -- the entries of a table, in order
 abbrev pub listed : Toc → List Entry
-listed toc = toc.entries.items
+listed toc = map (entry_of toc.width (run toc.bits)) (range_with_len 0 toc.entries)
 
 -- their types
 abbrev pub types_of : List Entry → List ℕ

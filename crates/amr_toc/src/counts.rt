@@ -10,7 +10,7 @@ use amr_frame::{Profile, bits_of, octets_of};
 use spec_payload::PayloadRefusal;
 
 /// The number of bits of the frames before frame `at`.
-pub fn bits_before(profile: &Profile, toc: &Toc, at: usize) -> usize
+pub fn bits_before(profile: &Profile, toc: &Toc<'_>, at: usize) -> usize
     requires { at ≤ length (listed toc.now) }
     ensures sum { result ≡ sum (map (bits_in profile.now.codec) (take at (types_of (listed toc.now)))) }
     ensures most { result ≤ 477 * at }
@@ -23,7 +23,7 @@ pub fn bits_before(profile: &Profile, toc: &Toc, at: usize) -> usize
 }
 
 /// The number of octets that hold the frames before frame `at`, each filled up to a whole octet.
-pub fn octets_before(profile: &Profile, toc: &Toc, at: usize) -> usize
+pub fn octets_before(profile: &Profile, toc: &Toc<'_>, at: usize) -> usize
     requires { at ≤ length (listed toc.now) }
     ensures sum { result ≡ sum (take at (map (octets_in profile.now.codec) (types_of (listed toc.now)))) }
     ensures most { result ≤ 60 * at }
@@ -36,7 +36,7 @@ pub fn octets_before(profile: &Profile, toc: &Toc, at: usize) -> usize
 }
 
 /// How many of the frames before frame `at` have bits.
-pub(crate) fn filled_before(profile: &Profile, toc: &Toc, at: usize) -> usize
+pub(crate) fn filled_before(profile: &Profile, toc: &Toc<'_>, at: usize) -> usize
     requires { at ≤ length (listed toc.now) }
     ensures count { result ≡ length (filter (λ ft. nat_lt 0 (bits_in profile.now.codec ft)) (take at (types_of (listed toc.now)))) }
     ensures most { result ≤ at }
@@ -51,7 +51,7 @@ pub(crate) fn filled_before(profile: &Profile, toc: &Toc, at: usize) -> usize
 }
 
 /// How many CRCs stand behind the table.
-pub fn checks_of(profile: &Profile, toc: &Toc) -> usize
+pub fn checks_of(profile: &Profile, toc: &Toc<'_>) -> usize
     ensures count { result ≡ checks_count profile.now (types_of (listed toc.now)) }
     ensures most { result ≤ 384 }
 {
@@ -62,7 +62,7 @@ pub fn checks_of(profile: &Profile, toc: &Toc) -> usize
 }
 
 /// The number of octets of each frame, in the order of the table; zeros behind them.
-pub(crate) fn octet_counts(profile: &Profile, toc: &Toc) -> [u8; 384]
+pub(crate) fn octet_counts(profile: &Profile, toc: &Toc<'_>) -> [u8; 384]
     ensures { take (length (listed toc.now)) result ≡ map (octets_in profile.now.codec) (types_of (listed toc.now)) }
 {
     let mut counts = [0; 384];

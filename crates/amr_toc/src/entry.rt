@@ -1,7 +1,9 @@
-ghost use Rattle.std.specs.Prelude.{◌≡◌, ◌≤◌, ◌<◌, length, slice_index_or, true};
-ghost use Rattle.amr_toc.specs.Entries.{HasTypes};
+ghost use Rattle.std.specs.List.{range_with_len};
+ghost use Rattle.std.specs.Prelude.{◌≡◌, ◌≤◌, ◌<◌, ◌*◌, ◌+◌, length, map, slice_index_or, true};
+ghost use Rattle.amr_bits.specs.Runs.{run};
+ghost use Rattle.amr_toc.specs.Table.{entry_of};
 
-use arrayvec::ArrayVec;
+use amr_bits::BitSlice;
 
 /// An entry of a table of contents: a frame type and the quality bit Q (RFC 4867, 4.3.2).
 #[derive(Clone, Copy, Debug, PartialEq, Eq)]
@@ -19,26 +21,37 @@ impl Default for Entry {
     }
 }
 
-/// A table of contents: from 1 to 384 entries, whose types are at most 15.
-#[derive(Drop)]
-pub struct Toc {
-    entries: ArrayVec<Entry, 384>,
-    ghost some: { 1 ≤ length entries.items },
-    ghost most: { length entries.items ≤ 384 },
-    ghost types: { HasTypes entries.items },
+/// A table of contents at the front of borrowed bits: from 1 to 384 entries, of 6 bits each (RFC 4867, 4.3.2) or of 8
+/// bits (4.4.2). Entries are looked up in the bits, and nothing is copied.
+#[derive(Clone, Copy, Debug)]
+pub struct Toc<'a> {
+    bits: BitSlice<'a>,
+    width: usize,
+    entries: usize,
+    ghost some: { 1 ≤ entries },
+    ghost most: { entries ≤ 384 },
+    ghost low: { 6 ≤ width },
+    ghost high: { width ≤ 8 },
+    ghost whole: { entries * width ≤ bits.len },
 }
 
-impl Toc {
+impl<'a> Toc<'a> {
     ghost use Rattle.amr_toc.specs.Lists.{listed};
 
-    /// A table of these entries.
-    pub(crate) fn of(entries: ArrayVec<Entry, 384>) -> Toc
-        requires some { 1 ≤ length entries.items }
-        requires most { length entries.items ≤ 384 }
-        requires types { HasTypes entries.items }
-        ensures { listed result ≡ entries.items }
+    /// The table of so many entries at the front of bits.
+    pub(crate) fn over(bits: BitSlice<'a>, width: usize, entries: usize) -> Toc<'a>
+        requires some { 1 ≤ entries }
+        requires most { entries ≤ 384 }
+        requires low { 6 ≤ width }
+        requires high { width ≤ 8 }
+        requires whole { entries * width ≤ bits.len }
+        ensures { listed result ≡ map (entry_of width (run bits.entry)) (range_with_len 0 entries) }
     {
-        Toc { entries }
+        Toc {
+            bits,
+            width,
+            entries,
+        }
     }
 
     /// How many entries the table has.
@@ -47,7 +60,7 @@ impl Toc {
         ensures some { 1 ≤ result }
         ensures most { result ≤ 384 }
     {
-        self.entries.as_slice().len()
+        self.entries
     }
 
     /// Entry `at`, counted from 0.
@@ -56,13 +69,20 @@ impl Toc {
         ensures ft { result.ft ≤ 15 }
         ensures entry { result ≡ slice_index_or (listed self.now) at result }
     {
-        self.entries.as_slice()[at]
+        entry_at(self.bits, self.width, at)
     }
+}
 
-    /// The entries in order.
-    pub fn entries(&self) -> &[Entry]
-        ensures { result.now ≡ listed self.now }
-    {
-        self.entries.as_slice()
+/// Entry `at` of a table at the front of bits, which is whole.
+pub(crate) fn entry_at(bits: BitSlice<'_>, width: usize, at: usize) -> Entry
+    requires at { at ≤ 384 }
+    requires low { 6 ≤ width }
+    requires high { width ≤ 8 }
+    requires whole { (at + 1) * width ≤ bits.len }
+    ensures { result ≡ entry_of width (run bits.entry) at }
+{
+    Entry {
+        ft: bits.number(at * width + 1, 4) as u8,
+        q: bits.bit(at * width + 5),
     }
 }

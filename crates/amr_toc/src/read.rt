@@ -2,19 +2,22 @@ ghost use Rattle.std.specs.Prelude.{◌≡◌, ◌≢◌, ◌≤◌, ◌<◌, �
 ghost use Rattle.amr_bits.specs.Runs.{run};
 ghost use Rattle.amr_frame.specs.Profiles.{IsValid};
 ghost use Rattle.amr_toc.specs.Lists.{listed};
-ghost use Rattle.amr_toc.specs.Table.{entry_of, fault_of, last_of, table_of, table_refusal};
+ghost use Rattle.amr_toc.specs.Table.{fault_of, last_of, table_of, table_refusal};
 
-use crate::entry::{Entry, Toc};
+use crate::entry::Toc;
 use amr_bits::BitSlice;
 use amr_frame::{Kind, Profile, kind_of};
-use arrayvec::ArrayVec;
 use spec_payload::PayloadRefusal;
 
 /// Reads a table of contents from the front of the bits, entries of 6 bits (RFC 4867, 4.3.2) or 8 bits
 /// (4.4.2). The bits behind the table aren't looked at. Refuses a table that isn't ended (P4), that has
 /// a reserved type (P5), too many entries (P6), or entries that aren't whole blocks (P7): the first that
 /// holds, by the first entry at which one of P4 to P6 does.
-pub fn read_toc(profile: &Profile, bits: BitSlice<'_>, width: u32) -> Result<Toc, PayloadRefusal>
+pub fn read_toc<'a>(
+    profile: &Profile,
+    bits: BitSlice<'a>,
+    width: u32,
+) -> Result<Toc<'a>, PayloadRefusal>
     requires valid { IsValid profile.now }
     requires width { (width ≡ 6) ⊎ (width ≡ 8) }
 
@@ -24,34 +27,42 @@ pub fn read_toc(profile: &Profile, bits: BitSlice<'_>, width: u32) -> Result<Toc
     ensures refused { IfErr result (λ why. table_refusal profile.now width (run bits.entry) ≡ Some why) }
 {
     entries_within(profile);
-    let toc = read_entries(profile, bits, width as usize)?;
-    let entries = toc.len();
+    let width = width as usize;
+    let entries = match count_entries(profile, bits, width) {
+        Ok(entries) => entries,
+        Err(why) => return Err(why),
+    };
     if entries % profile.channels as usize != 0 {
         return Err(PayloadRefusal::ChannelRest { entries });
     }
-    Ok(toc)
+    Ok(Toc::over(bits, width, entries))
 }
 
-/// Reads entries up to the first that has F = 0.
-fn read_entries(profile: &Profile, bits: BitSlice<'_>, width: usize) -> Result<Toc, PayloadRefusal>
+/// How many entries there are up to the first that has F = 0.
+fn count_entries(
+    profile: &Profile,
+    bits: BitSlice<'_>,
+    width: usize,
+) -> Result<usize, PayloadRefusal>
     requires most { profile.now.max_blocks * profile.now.channels ≤ 384 }
     requires low { 6 ≤ width }
     requires high { width ≤ 8 }
 
-    ensures table { IfOk result (λ toc. listed toc ≡ table_of profile.now width (run bits.entry)) }
-    ensures accepted { IfOk result (λ toc. fault_of profile.now width (run bits.entry) (last_of profile.now width (run bits.entry)) ≡ None) }
+    ensures count { IfOk result (λ n. n ≡ last_of profile.now width (run bits.entry) + 1) }
+    ensures whole { IfOk result (λ n. n * width ≤ bits.entry.len) }
+    ensures some { IfOk result (λ n. 1 ≤ n) }
+    ensures few { IfOk result (λ n. n ≤ 384) }
+    ensures accepted { IfOk result (λ n. fault_of profile.now width (run bits.entry) (last_of profile.now width (run bits.entry)) ≡ None) }
 
     ensures refused { IfErr result (λ why. fault_of profile.now width (run bits.entry) (last_of profile.now width (run bits.entry)) ≡ Some why) }
 {
     let most = profile.max_blocks as usize * profile.channels as usize;
-    let mut entries = ArrayVec::new();
     for at in 0..most + 1 {
         if let Some(why) = fault_at(profile, bits, width, at) {
             return Err(why);
         }
-        entries.push(entry_at(bits, width, at));
         if !bits.bit(at * width) {
-            return Ok(Toc::of(entries));
+            return Ok(at + 1);
         }
     }
     unreachable!()
@@ -82,20 +93,6 @@ fn fault_at(
         return Some(PayloadRefusal::TooManyBlocks);
     }
     None
-}
-
-/// Entry `at`, which is whole.
-fn entry_at(bits: BitSlice<'_>, width: usize, at: usize) -> Entry
-    requires at { at ≤ 384 }
-    requires low { 6 ≤ width }
-    requires high { width ≤ 8 }
-    requires whole { (at + 1) * width ≤ bits.len }
-    ensures { result ≡ entry_of width (run bits.entry) at }
-{
-    Entry {
-        ft: bits.number(at * width + 1, 4) as u8,
-        q: bits.bit(at * width + 5),
-    }
 }
 
 /// A valid format has at least one channel, and at most 384 entries in a table. Says so, and does nothing.

@@ -1,6 +1,6 @@
 ghost use Rattle.std.specs.Prelude.{◌≡◌, ◌≤◌, ◌⊎◌, length};
 
-use crate::{PayloadRefusal, read_toc, write_toc};
+use crate::{Entry, PayloadRefusal, read_toc, write_toc};
 use amr_bits::{BitSlice, BitWriter};
 use amr_frame::{Codec, Profile};
 
@@ -67,7 +67,11 @@ fn written(width: u32, octets: &[u8]) -> Option<([u8; 5], usize)>
     }
     let mut out = [0xff; 5];
     let mut at = BitWriter { written: 4 };
-    write_toc(toc.entries(), width, &mut at, &mut out);
+    let mut entries = [Entry::default(); 4];
+    for k in 0..toc.len() {
+        entries[k] = toc.entry(k);
+    }
+    write_toc(&entries[..toc.len()], width, &mut at, &mut out);
     Some((out, at.written()))
 }
 

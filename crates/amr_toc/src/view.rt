@@ -24,7 +24,7 @@ use amr_guard::sorted_place;
 pub struct PayloadView<'a> {
     profile: Profile,
     octets: &'a [u8],
-    toc: Toc,
+    toc: Toc<'a>,
     /// The first bit behind the table and the CRCs.
     body: usize,
     ghost valid: { IsValid profile },
@@ -39,7 +39,7 @@ impl<'a> PayloadView<'a> {
     ghost use Rattle.spec_payload.specs.Grammar.{check_of};
 
     /// The view of a payload's octets, of which `toc` is the table of contents.
-    pub fn over(profile: &Profile, octets: &'a [u8], toc: Toc) -> PayloadView<'a>
+    pub fn over(profile: &Profile, octets: &'a [u8], toc: Toc<'a>) -> PayloadView<'a>
         requires valid { IsValid profile.now }
         requires accepted { payload_refusal profile.now octets.now ≡ None }
         requires table { listed toc ≡ toc_at profile.now octets.now }
@@ -274,7 +274,7 @@ impl<'a> PayloadView<'a> {
 }
 
 /// The first bit behind the table and the CRCs.
-fn body_of(profile: &Profile, toc: &Toc) -> usize
+fn body_of(profile: &Profile, toc: &Toc<'_>) -> usize
     ensures body { result ≡ body_bit profile.now (types_of (listed toc.now)) }
     ensures short { result ≤ 6160 }
 {

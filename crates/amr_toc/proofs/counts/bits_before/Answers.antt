@@ -3,7 +3,7 @@ use Rattle.std.specs.List.{sum_by}
 use Rattle.amr_frame.specs.Tables.{bits_in}
 use Rattle.amr_toc.specs.declared.entry.Entry.{Entry}
 use Rattle.amr_toc.specs.Lists.{listed}
-use Rattle.amr_toc.proofs.Sizes.{most_bits, bits_to}
+use Rattle.amr_toc.proofs.Sizes.{most_bits, bits_to, listed_count}
 use Rattle.amr_toc.proofs.counts.bits_before.Goals as goal
 
 pub overflow_add-bits : goal.overflow_add-bits
@@ -11,6 +11,7 @@ overflow_add-bits c =
     let one = most_bits c.args.profile.now.codec c.entry.result.ft in
     let all = c.loop-k.invariant.1 in
     let few = c.args.toc.now.most in
+    let count = listed_count c.args.toc.now in
     omega (arith, c.bits_of-bits.ensures)
 
 pub returns-clause-sum : goal.returns-clause-sum

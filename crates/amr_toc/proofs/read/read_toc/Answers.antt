@@ -1,6 +1,6 @@
-use Rattle.std.proofs.Common.{◌≡◌, ◌+◌, ◌%◌, Some, length, ap, sym, subst, ◌∙◌, arith}
+use Rattle.std.proofs.Common.{◌≡◌, ◌+◌, ◌%◌, Some, map, ap, sym, subst, ◌∙◌, arith}
+use Rattle.std.specs.List.{range_with_len}
 use Rattle.std.specs.Prelude.{◌<◌}
-use Rattle.std.proofs.lemmas.List.FromFn.{length-map-range_with_len}
 use Rattle.amr_bits.specs.Runs.{run}
 use Rattle.amr_toc.specs.Table.{entry_of, fault_of, last_of}
 use Rattle.amr_toc.proofs.Ends.{rest_refused, none_refused}
@@ -13,9 +13,15 @@ returns-then-entries-profile-ne0-clause-refused c =
     let w = c.args.width in
     let bits = run c.args.bits in
     let n = last_of p w bits + 1 in
-    let e : c.len-entries.result ≡ n = c.len-entries.ensures.entries ∙ ap length c.in_ok-toc.ensures.table ∙ length-map-range_with_len (entry_of w bits) 0 n in
+    let e = c.in-Ok.ensures.count in
     let rest : 0 < n % p.channels = subst (λ m. 0 < m % p.channels) e (let h = c.if-entries-profile-ne0.true in omega (arith, h)) in
-    rest_refused (fault_of p w bits (last_of p w bits)) n p.channels c.in_ok-toc.ensures.accepted rest ∙ ap (λ m. Some (why.ChannelRest m)) (sym e)
+    rest_refused (fault_of p w bits (last_of p w bits)) n p.channels c.in-Ok.ensures.accepted rest ∙ ap (λ m. Some (why.ChannelRest m)) (sym e)
+
+pub returns-clause-table : goal.returns-clause-table
+returns-clause-table c =
+    let w = c.args.width in
+    let bits = run c.args.bits in
+    c.over.ensures ∙ ap (λ n. map (entry_of w bits) (range_with_len 0 n)) c.in-Ok.ensures.count
 
 pub returns-clause-accepted : goal.returns-clause-accepted
 returns-clause-accepted c =
@@ -23,5 +29,5 @@ returns-clause-accepted c =
     let w = c.args.width in
     let bits = run c.args.bits in
     let n = last_of p w bits + 1 in
-    let e : c.len-entries.result ≡ n = c.len-entries.ensures.entries ∙ ap length c.in_ok-toc.ensures.table ∙ length-map-range_with_len (entry_of w bits) 0 n in
-    none_refused (fault_of p w bits (last_of p w bits)) n p.channels c.in_ok-toc.ensures.accepted (subst (λ m. m % p.channels ≡ 0) e (let h = c.if-entries-profile-ne0.false in omega (arith, h)))
+    let e = c.in-Ok.ensures.count in
+    none_refused (fault_of p w bits (last_of p w bits)) n p.channels c.in-Ok.ensures.accepted (subst (λ m. m % p.channels ≡ 0) e (let h = c.if-entries-profile-ne0.false in omega (arith, h)))

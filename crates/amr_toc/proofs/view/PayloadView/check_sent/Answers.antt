@@ -1,5 +1,6 @@
 use Rattle.std.proofs.Common.{◌<◌, length, get_or, ap, sym, ◌∙◌, subst, arith}
 use Rattle.amr_toc.specs.Lists.{listed}
+use Rattle.amr_toc.proofs.Sizes.{listed_count}
 use Rattle.amr_toc.proofs.Accepted.{aligned_of}
 use Rattle.amr_toc.proofs.CheckPlaces.{check_stands, check_place}
 use Rattle.amr_toc.proofs.Shown.{in_table, in_entries, length_bits}
@@ -18,6 +19,7 @@ overflow_add-result-2 c =
     let before = c.filled_before.ensures.most in
     let h = in_table c.args.self.now.profile c.args.self.now.octets.now (listed c.args.self.now.toc) c.args.at c.args.self.now.table c.requires.frame in
     let few = c.args.self.now.toc.most in
+    let count = listed_count c.args.self.now.toc in
     omega arith
 
 pub bounds-self-header_octets : goal.bounds-self-header_octets

@@ -7,7 +7,7 @@ use Rattle.std.specs.List.{All}
 use Rattle.std.specs.Prelude.{◌≤◌}
 use Rattle.amr_toc.specs.Lists.{listed, types_of}
 use Rattle.amr_toc.proofs.Accepted.{aligned_of}
-use Rattle.amr_toc.proofs.Sizes.{sizes_short}
+use Rattle.amr_toc.proofs.Sizes.{sizes_short, listed_count}
 use Rattle.amr_toc.proofs.Standing.{octet_sorted}
 use Rattle.amr_toc.proofs.view.PayloadView.sorted_octet.Goals as goal
 
@@ -15,6 +15,16 @@ pub sorted_place-requires-clause-short : goal.sorted_place-requires-clause-short
 sorted_place-requires-clause-short c =
     let v = c.args.self.now in
     subst (All (λ l. l ≤ 60)) (sym c.requires.counts) (sizes_short v.profile.codec (types_of (listed v.toc)))
+
+pub sorted_place-requires-clause-frames : goal.sorted_place-requires-clause-frames
+sorted_place-requires-clause-frames c =
+    let v = c.args.self.now in
+    let counts = c.args.counts.now in
+    let fts = types_of (listed v.toc) in
+    let long : length counts ≡ length (listed v.toc) = ap length c.requires.counts ∙ length-map fts (octets_in v.profile.codec) ∙ length-map (listed v.toc) (λ (e : Entry). e.ft) in
+    let few = v.toc.most in
+    let count = listed_count v.toc in
+    omega arith
 
 pub overflow_add-result : goal.overflow_add-result
 overflow_add-result c =
@@ -25,6 +35,7 @@ overflow_add-result c =
     let most = sum_by-le (λ (x : ℕ). x) 60 counts short in
     let long : length counts ≡ length (listed v.toc) = ap length c.requires.counts ∙ length-map fts (octets_in v.profile.codec) ∙ length-map (listed v.toc) (λ (e : Entry). e.ft) in
     let few = v.toc.most in
+    let count = listed_count v.toc in
     let begin = v.short in
     let within = c.sorted_place.ensures.within in
     omega arith
