@@ -41,7 +41,7 @@ pub fn keep_better(codec: Codec, kept: &mut Cell, other: &Cell)
     ensures better { held kept.new ≡ better codec (held kept.old) (held other.now) }
     ensures valid { IsCell codec kept.new }
 {
-    if let Ordering::Less = compare(codec, kept, other) {
+    if !kept.present || compare(codec, kept, other).is_lt() {
         *kept = *other;
     }
 }
