@@ -21,6 +21,7 @@ use rtp_packet::RtpView;
 
 impl<'a> Frames for PayloadView<'a> {
     ghost use Rattle.amr_toc.specs.Viewed.{format_of, viewed};
+    ghost use Rattle.amr_toc.specs.Walks.{StandsAt};
 
     ghost profile = { format_of };
 
@@ -34,8 +35,14 @@ impl<'a> Frames for PayloadView<'a> {
         self.stride()
     }
 
-    fn frame(&self, at: usize) -> Cell {
-        self.frame(at)
+    ghost stands = { StandsAt };
+
+    fn first_place(&self) -> usize {
+        self.first_place()
+    }
+
+    fn next_frame(&self, at: usize, place: &mut usize) -> Cell {
+        self.next_frame(at, place)
     }
 }
 

@@ -139,9 +139,10 @@ pub fn take_all<P: Frames>(
     let channels = plan.profile.channels as usize;
     let stride = payload.stride();
     let mut merged = Merged { next, copies: 0 };
+    let mut walked = payload.first_place();
     for index in 0..payload.frames() {
         let spot = place + (index / channels) as u64 * stride as u64;
-        let frame = payload.frame(index);
+        let frame = payload.next_frame(index, &mut walked);
         merged = take_in(
             ring,
             plan,

@@ -51,7 +51,14 @@ impl Frames for Single {
         1
     }
 
-    fn frame(&self, _at: usize) -> Cell {
+    ghost stands = { λ _ place k. place ≡ k };
+
+    fn first_place(&self) -> usize {
+        0
+    }
+
+    fn next_frame(&self, at: usize, place: &mut usize) -> Cell {
+        *place = at + 1;
         self.cell
     }
 }

@@ -13,4 +13,5 @@ pub mod Standing
 pub mod Tables
 pub mod Telling
 pub mod Valued
+pub mod Walking
 pub mod Writing

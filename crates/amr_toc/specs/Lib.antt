@@ -7,3 +7,4 @@ pub mod Places
 pub mod Table
 pub mod Told
 pub mod Viewed
+pub mod Walks

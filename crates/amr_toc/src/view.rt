@@ -1,9 +1,9 @@
-ghost use Rattle.std.specs.Prelude.{◌≡◌, ◌+◌, ◌-◌, ◌*◌, ◌/◌, ◌%◌, ◌^◌, ◌≤◌, ◌<◌, ◌↔◌, ℕ, IfSome, IsNone, None, Some, false, length, nat_eq, slice_index, slice_index_or, true};
+ghost use Rattle.std.specs.Prelude.{◌≡◌, ◌+◌, ◌-◌, ◌*◌, ◌/◌, ◌%◌, ◌^◌, ◌≤◌, ◌<◌, ◌↔◌, ℕ, IfSome, IsNone, None, Some, cond, false, length, nat_eq, slice_index, slice_index_or, true};
 ghost use Rattle.amr_bits.specs.Bits.{bits_at, filled, octets_for};
 ghost use Rattle.amr_bits.specs.Runs.{run};
 ghost use Rattle.amr_frame.specs.Cells.{IsCell, held};
 ghost use Rattle.amr_frame.specs.Profiles.{IsValid};
-ghost use Rattle.amr_frame.specs.Tables.{bits_in};
+ghost use Rattle.amr_frame.specs.Tables.{bits_in, octets_in};
 ghost use Rattle.amr_guard.specs.Sorting.{IsOctet};
 ghost use Rattle.amr_toc.specs.Lists.{listed, toc_at, types_of};
 ghost use Rattle.amr_toc.specs.Places.{bits_to, body_bit, sizes_in};
@@ -16,7 +16,7 @@ use crate::entry::{Entry, Toc};
 use crate::header::{header_octets, interleaving_number};
 use crate::octets::octet_in;
 use amr_bits::BitSlice;
-use amr_frame::{Cell, Profile, bits_of};
+use amr_frame::{Cell, Profile, bits_of, octets_of};
 use amr_guard::sorted_place;
 
 /// A payload that was read, in place: its octets, its table of contents and where its body begins.
@@ -36,6 +36,7 @@ pub struct PayloadView<'a> {
 
 impl<'a> PayloadView<'a> {
     ghost use Rattle.amr_toc.specs.Viewed.{checks_to, format_of, frame_in, is_damaged, octets_of, said, standing, viewed};
+    ghost use Rattle.amr_toc.specs.Walks.{StandsAt};
     ghost use Rattle.spec_payload.specs.Grammar.{check_of};
 
     /// The view of a payload's octets, of which `toc` is the table of contents.
@@ -173,11 +174,55 @@ impl<'a> PayloadView<'a> {
         ensures frame { held result ≡ Some (frame_in (viewed self.now) at) }
         ensures valid { IsCell (format_of self.now).codec result }
     {
+        self.frame_from(at, self.start_of(at))
+    }
+
+    /// Where the first frame begins, for `next_frame`.
+    pub fn first_place(&self) -> usize
+        ensures { StandsAt self.now result 0 }
+    {
+        self.body
+    }
+
+    /// Frame `at`, as `frame` gives it, where the frames before were walked and it begins at `place`. Then `place` is that
+    /// of the frame behind it. It doesn't look at the frames before, unless the format has CRCs or sorts the octets.
+    pub fn next_frame(&self, at: usize, place: &mut usize) -> Cell
+        requires frame { at < length (viewed self.now).frames }
+        requires stands { StandsAt self.now place.old at }
+        ensures frame { held result ≡ Some (frame_in (viewed self.now) at) }
+        ensures valid { IsCell (format_of self.now).codec result }
+        ensures stands { StandsAt self.now place.new (at + 1) }
+    {
+        let start = *place;
+        *place += self.room_of(self.toc.entry(at).ft);
+        self.frame_from(at, start)
+    }
+
+    /// How many bits of the body a frame of this type takes up.
+    fn room_of(&self, ft: u8) -> usize
+        requires { ft ≤ 15 }
+        ensures room { result ≡ cond self.now.profile.octet_aligned (8 * octets_in self.now.profile.codec ft) (bits_in self.now.profile.codec ft) }
+        ensures most { result ≤ 480 }
+    {
+        if self.profile.octet_aligned {
+            8 * octets_of(self.profile.codec, ft)
+        } else {
+            bits_of(self.profile.codec, ft)
+        }
+    }
+
+    /// Frame `at`, which begins at bit `start` where the octets aren't sorted.
+    fn frame_from(&self, at: usize, start: usize) -> Cell
+        requires frame { at < length (viewed self.now).frames }
+        requires start { start ≡ self.now.body + bits_to self.now.profile (types_of (listed self.now.toc)) at }
+        ensures frame { held result ≡ Some (frame_in (viewed self.now) at) }
+        ensures valid { IsCell (format_of self.now).codec result }
+    {
         let entry = self.entry(at);
         let damaged = self.damaged(at);
         let q = entry.q && !damaged;
         if !self.profile.sorting {
-            return Cell::from_bits(self.profile.codec, entry.ft, q, self.run_of(at));
+            return Cell::from_bits(self.profile.codec, entry.ft, q, self.run_from(at, start));
         }
         let gathered = self.gathered(at);
         let bits = BitSlice {
@@ -227,9 +272,21 @@ impl<'a> PayloadView<'a> {
         ensures lent { result.octets.now ≡ self.now.octets.now }
         ensures len { result.len ≡ bits_in self.now.profile.codec (frame_in (said self.now) at).ft }
     {
+        self.run_from(at, self.start_of(at))
+    }
+
+    /// The bits of frame `at`, which begins at bit `start`, in a payload whose octets aren't sorted.
+    fn run_from(&self, at: usize, start: usize) -> BitSlice<'a>
+        requires frame { at < length (viewed self.now).frames }
+        requires plain { self.now.profile.sorting ≡ false }
+        requires start { start ≡ self.now.body + bits_to self.now.profile (types_of (listed self.now.toc)) at }
+        ensures bits { run result ≡ (frame_in (said self.now) at).bits }
+        ensures lent { result.octets.now ≡ self.now.octets.now }
+        ensures len { result.len ≡ bits_in self.now.profile.codec (frame_in (said self.now) at).ft }
+    {
         BitSlice {
             octets: self.octets,
-            start: self.start_of(at),
+            start,
             len: bits_of(self.profile.codec, self.toc.entry(at).ft),
         }
     }

@@ -17,7 +17,7 @@ loop-index-preserved g c =
     let v : Value = g.P.Frames.value c.args.payload.now in
     let n : ℕ = rules.channels in
     let i : ℕ = c.loop-index.index in
-    let f : Frame = frame_of c.frame-frame.result in
+    let f : Frame = frame_of c.next_frame-frame.result in
     let stride = c.stride-stride.ensures in
     let inv = c.loop-index.invariant in
     let step = c.take_in-merged.ensures in
@@ -25,19 +25,20 @@ loop-index-preserved g c =
       cells = λ a cs is here edge held.
           step.cells (cs ++ copies_to rules a i) (inv.cells a cs is here edge held)
           ∙ ap (λ s. window_of rules ((cs ++ copies_to rules a i) ++ newly (at c.args.edge) (at (c.args.place + (i / n) * s)) (i % n) f) (at c.args.base)) stride
-          ∙ ap (λ ds. window_of rules ds (at c.args.base)) (frame_more rules a v (at c.args.edge) c.args.place i f cs is here edge c.frame-frame.ensures.frame);
+          ∙ ap (λ ds. window_of rules ds (at c.args.base)) (frame_more rules a v (at c.args.edge) c.args.place i f cs is here edge c.next_frame-frame.ensures.frame);
       next = λ a is here edge.
           step.next
           ∙ ap (λ s. least (at c.loop-index.merged.next) (newly (at c.args.edge) (at (c.args.place + (i / n) * s)) (i % n) f)) stride
-          ∙ frame_more_least rules a v (at c.args.edge) (at c.args.next) (at c.loop-index.merged.next) c.args.place i f is here edge c.frame-frame.ensures.frame (inv.next a is here edge);
+          ∙ frame_more_least rules a v (at c.args.edge) (at c.args.next) (at c.loop-index.merged.next) c.args.place i f is here edge c.next_frame-frame.ensures.frame (inv.next a is here edge);
       copies = λ a cs is here edge held.
           (let so_far = inv.copies a cs is here edge held in
           let more = step.copies (cs ++ copies_to rules a i) (inv.cells a cs is here edge held) in
           let same : repeated ((cs ++ copies_to rules a i) ++ newly (at c.args.edge) (at (c.args.place + (i / n) * c.stride-stride.result)) (i % n) f) ≡ repeated (cs ++ copies_to rules a (i + 1)) =
           ap (λ s. repeated ((cs ++ copies_to rules a i) ++ newly (at c.args.edge) (at (c.args.place + (i / n) * s)) (i % n) f)) stride
-          ∙ ap repeated (frame_more rules a v (at c.args.edge) c.args.place i f cs is here edge c.frame-frame.ensures.frame) in
+          ∙ ap repeated (frame_more rules a v (at c.args.edge) c.args.place i f cs is here edge c.next_frame-frame.ensures.frame) in
           omega (arith, so_far, more, same));
       few = (let more = step.few in let so_far = inv.few in omega arith);
+      stands = c.next_frame-frame.ensures.stands;
       valid = step.valid;
       full = step.full ∙ inv.full;
       capacity = step.capacity ∙ inv.capacity;

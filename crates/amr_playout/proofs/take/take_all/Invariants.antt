@@ -20,6 +20,7 @@ invariant-loop-index g l = record {
       held_of l.initial.ring.items ≡ window_of (rules_in l.plan) cs (at l.base) →
       repeated (cs ++ copies_to (rules_in l.plan) a l.index) ≡ repeated cs + l.merged.copies;
   few : l.merged.copies ≤ l.index;
+  stands : g.P.Frames.stands l.payload l.walked l.index;
   valid : AllByRecursion (IsCell l.plan.profile.codec) l.ring.items;
   full : length l.ring.items ≡ length l.initial.ring.items;
   capacity : l.ring.capacity ≡ l.initial.ring.capacity;
