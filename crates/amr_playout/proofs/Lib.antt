@@ -2,6 +2,8 @@ pub mod Accepting
 pub mod CellLists
 pub mod Cells
 pub mod Counts
+pub mod Ended
+pub mod Fronts
 pub mod Holding
 pub mod Jumps
 pub mod Late

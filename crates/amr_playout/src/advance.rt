@@ -6,8 +6,9 @@ ghost use Rattle.amr_frame.specs.Cells.{IsCell};
 ghost use Rattle.amr_io.specs.Fault.{HasCause};
 ghost use Rattle.amr_playout.specs.Window.{held_of, rows, slid};
 
+use crate::block::put_front;
 use crate::missing::put_missing;
-use crate::ring::push_block;
+use crate::ring::push_absent;
 use amr_frame::{BlockSink, Cell, Codec};
 use amr_io::Failed;
 use circular_buffer::HeapCircularBuffer;
@@ -76,9 +77,10 @@ fn put_held<B: BlockSink>(
     ensures capacity { ring.new.capacity ≡ ring.old.capacity }
 {
     for at in 0..count {
-        let block = push_block(ring, codec, channels);
-        if skip <= at {
-            out.put_block(&block)?;
+        if at < skip {
+            push_absent(ring, codec, channels);
+        } else {
+            put_front(ring, codec, channels, out)?;
         }
     }
     Ok(())

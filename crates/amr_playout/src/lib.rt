@@ -5,6 +5,7 @@
 mod accept;
 mod advance;
 mod answers;
+mod block;
 mod frames;
 mod judge;
 mod missing;

@@ -22,6 +22,28 @@ pub fn put_missing<B: BlockSink>(channels: usize, count: u64, out: &mut B) -> Re
     ensures ready { B.ready out.new ≡ is_ok result }
     ensures kept { OnOk result ((B.codec out.new ≡ B.codec out.old) × (B.channels out.new ≡ channels)) }
 {
+    if count == 0 {
+        Ok(())
+    } else {
+        put_no_data(channels, count, out)
+    }
+}
+
+/// Puts out one block of NO_DATA, as often as this.
+#[cold]
+#[inline(never)]
+fn put_no_data<B: BlockSink>(channels: usize, count: u64, out: &mut B) -> Result<(), Failed>
+    requires few { channels ≤ 6 }
+    requires ready { IsTrue (B.ready out.old) }
+    requires sink { B.channels out.old ≡ channels }
+
+    ensures out { OnOk result (GotBlocks B.whole out.old (replicate count (replicate channels no_data)) out.new) }
+    ensures part { OnErr result (GotPrefix B.whole B.part out.old (replicate count (replicate channels no_data)) out.new) }
+    ensures cause { HasCause (B.faults out.old) (B.faults out.new) result }
+    ensures same { B.same out.old out.new }
+    ensures ready { B.ready out.new ≡ is_ok result }
+    ensures kept { OnOk result ((B.codec out.new ≡ B.codec out.old) × (B.channels out.new ≡ channels)) }
+{
     let block = missing_block(channels);
     for _ in 0..count {
         out.put_block(&block)?;

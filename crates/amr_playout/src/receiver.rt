@@ -14,7 +14,7 @@ use crate::frames::Frames;
 use crate::judge::shown;
 use crate::plan::Plan;
 use crate::receive::receive;
-use crate::rest::put_rest;
+use crate::rest::restart;
 use crate::ring::absent_ring;
 use crate::session::{Begun, Head};
 use amr_frame::{BlockSink, Cell};
@@ -197,7 +197,7 @@ impl Receiver {
         ensures kept { OnOk result ((B.ready out.new ≡ true) × (B.codec out.new ≡ B.codec out.old) × (B.channels out.new ≡ B.channels out.old)) }
     {
         self.spent = true;
-        let count = put_rest(&mut self.ring, &self.plan, &self.session, out)?;
+        let count = restart(&mut self.ring, &self.plan, &self.session, out)?;
         self.counts.blocks += count;
         Ok(count)
     }

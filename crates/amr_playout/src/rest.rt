@@ -1,5 +1,5 @@
 // The end of a session.
-ghost use Rattle.std.specs.Prelude.{◌≡◌, ◌+◌, ◌^◌, ◌<◌, IfOk, IsTrue, List, OnErr, OnOk, length, true};
+ghost use Rattle.std.specs.Prelude.{◌≡◌, ◌+◌, ◌^◌, ◌<◌, IfOk, IsTrue, List, None, OnErr, OnOk, [], length, true};
 ghost use Rattle.amr_io.specs.Fault.{HasCause};
 ghost use Rattle.amr_playout.specs.Gains.{Gains, GainsPart};
 ghost use Rattle.amr_playout.specs.Plans.{IsPlan, rules_in};
@@ -17,8 +17,9 @@ use amr_frame::{BlockSink, Cell};
 use amr_io::Failed;
 use circular_buffer::HeapCircularBuffer;
 
-/// Puts out what the window still holds, and tells how many blocks it was.
-pub fn put_rest<B: BlockSink>(
+/// Ends a session: puts out what the window still holds, and tells how many blocks it was. The ring is then that of no
+/// session.
+pub fn restart<B: BlockSink>(
     ring: &mut HeapCircularBuffer<Cell>,
     plan: &Plan,
     before: &Option<Begun>,
@@ -39,6 +40,7 @@ pub fn put_rest<B: BlockSink>(
     ensures part { OnErr result ((acc : List Accepted) → Holds (rules_in plan.now) before.now (held_of ring.old.items) acc
         → GainsPart B.whole B.part out.old out.new (sent_of (rules_in plan.now) acc) (released_of (rules_in plan.now) (copies_of (rules_in plan.now) acc))) }
 
+    ensures over { OnOk result ((acc : List Accepted) → Holds (rules_in plan.now) before.now (held_of ring.old.items) acc → Holds (rules_in plan.now) None (held_of ring.new.items) []) }
     ensures ring { IsRing plan.now ring.new }
     ensures cause { HasCause (B.faults out.old) (B.faults out.new) result }
     ensures same { B.same out.old out.new }

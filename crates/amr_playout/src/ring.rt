@@ -1,15 +1,13 @@
 // A full ring of cells, the oldest place at its front.
 ghost use Rattle.std.specs.List.{AllByRecursion};
-ghost use Rattle.std.specs.Prelude.{◌≡◌, ◌<◌, ◌≤◌, ◌++◌, IfOk, IsTrue, None, drop, is_some, length, map, replicate, slice_set, take};
+ghost use Rattle.std.specs.Prelude.{◌≡◌, ◌+◌, ◌<◌, ◌≤◌, ◌++◌, IfOk, IsTrue, None, drop, is_some, length, map, replicate, slice_set, take};
 ghost use Rattle.amr_frame.specs.Blocks.{IsPresentBlock, frames_of};
 ghost use Rattle.amr_frame.specs.Cells.{IsCell, frame_of, held};
-ghost use Rattle.amr_frame.specs.Frames.{IsFrame};
 ghost use Rattle.amr_playout.specs.Window.{held_of, item};
 ghost use Rattle.spec_session.specs.Quality.{better, stored};
 
 use amr_frame::{Cell, Codec};
 use amr_merge::keep_better;
-use arrayvec::ArrayVec;
 use circular_buffer::HeapCircularBuffer;
 use std::alloc::{AllocError, Global};
 
@@ -31,41 +29,65 @@ pub fn absent_ring(
     Ok(ring)
 }
 
-/// The frame as it is stored: NO_DATA for an absent one.
-fn or_no_data(codec: Codec, cell: Cell) -> Cell
-    requires { IsCell codec cell }
-    ensures frame { frame_of result ≡ stored (held cell) }
-    ensures present { IsTrue result.present }
-    ensures valid { IsFrame codec (frame_of result) }
+/// Makes a cell present: an absent one becomes NO_DATA, whose type, Q and bits it has.
+fn fill(cell: &mut Cell, codec: Codec)
+    requires valid { IsCell codec cell.old }
+    ensures frame { frame_of cell.new ≡ frame_of cell.old }
+    ensures present { IsTrue cell.new.present }
+    ensures valid { IsCell codec cell.new }
 {
-    if cell.present { cell } else { Cell::no_data() }
+    cell.present = true;
 }
 
-/// Pushes a block of absent cells, and gives the block that they push out, as it is stored.
-pub fn push_block(
-    ring: &mut HeapCircularBuffer<Cell>,
-    codec: Codec,
-    channels: usize,
-) -> ArrayVec<Cell, 6>
+/// Makes one cell of a ring present.
+fn fill_at(ring: &mut HeapCircularBuffer<Cell>, codec: Codec, index: usize)
+    requires within { index < length ring.old.items }
+    requires valid { AllByRecursion (IsCell codec) ring.old.items }
+
+    ensures frames { frames_of ring.new.items ≡ frames_of ring.old.items }
+    ensures present { AllByRecursion (λ (cell : Cell). IsTrue cell.present) (take index ring.old.items) → AllByRecursion (λ (cell : Cell). IsTrue cell.present) (take (index + 1) ring.new.items) }
+    ensures rest { drop (index + 1) ring.new.items ≡ drop (index + 1) ring.old.items }
+    ensures valid { AllByRecursion (IsCell codec) ring.new.items }
+    ensures full { length ring.new.items ≡ length ring.old.items }
+    ensures capacity { ring.new.capacity ≡ ring.old.capacity }
+{
+    if let Some(cell) = ring.get_mut(index) {
+        fill(cell, codec);
+    }
+}
+
+/// Makes the first cells of a ring present, so that they are a block as it is stored.
+pub fn fill_front(ring: &mut HeapCircularBuffer<Cell>, codec: Codec, count: usize)
+    requires within { count ≤ length ring.old.items }
+    requires valid { AllByRecursion (IsCell codec) ring.old.items }
+
+    ensures frames { frames_of (take count ring.new.items) ≡ map stored (take count (held_of ring.old.items)) }
+    ensures block { IsPresentBlock codec count (take count ring.new.items) }
+    ensures rest { drop count ring.new.items ≡ drop count ring.old.items }
+    ensures valid { AllByRecursion (IsCell codec) ring.new.items }
+    ensures full { length ring.new.items ≡ length ring.old.items }
+    ensures capacity { ring.new.capacity ≡ ring.old.capacity }
+{
+    for index in 0..count {
+        fill_at(ring, codec, index);
+    }
+}
+
+/// Pushes absent cells, which push out as many at the front.
+pub fn push_absent(ring: &mut HeapCircularBuffer<Cell>, codec: Codec, count: usize)
     requires full { length ring.old.items ≡ ring.old.capacity }
     requires valid { AllByRecursion (IsCell codec) ring.old.items }
-    requires few { channels ≤ 6 }
-    requires room { channels ≤ ring.old.capacity }
+    requires room { count ≤ ring.old.capacity }
 
-    ensures items { held_of ring.new.items ≡ drop channels (held_of ring.old.items) ++ replicate channels None }
+    ensures items { held_of ring.new.items ≡ drop count (held_of ring.old.items) ++ replicate count None }
     ensures valid { AllByRecursion (IsCell codec) ring.new.items }
     ensures full { length ring.new.items ≡ ring.new.capacity }
     ensures capacity { ring.new.capacity ≡ ring.old.capacity }
-    ensures frames { frames_of result.items ≡ map stored (take channels (held_of ring.old.items)) }
-    ensures block { IsPresentBlock codec channels result.items }
 {
-    let mut block: ArrayVec<Cell, 6> = ArrayVec::new();
     let none = Cell::absent();
-    for at in 0..channels {
-        let cell = ring.push_back(none).unwrap_or(none);
-        block.push(or_no_data(codec, cell));
+    for at in 0..count {
+        ring.push_back(none);
     }
-    block
 }
 
 /// Merges a frame into a cell, and tells whether the cell had one.

@@ -1,18 +1,13 @@
-use Rattle.std.proofs.Common.{◌≡◌, ◌++◌, ℕ, zero, suc, List, [], ◌∷◌, IsTrue, length, replicate, refl, ap, subst, sym, ◌∙◌, arith}
+use Rattle.std.proofs.Common.{◌≡◌, ◌++◌, ℕ, zero, suc, List, [], ◌∷◌, IsTrue, length, replicate, ap, subst, sym, ◌∙◌, arith}
 use Rattle.std.specs.List.{AllByRecursion}
 use Rattle.std.proofs.lemmas.List.{length-replicate, replicate_more}
 use Rattle.amr_frame.specs.Blocks.{frames_of}
 use Rattle.amr_frame.specs.declared.cell.Cell.{Cell}
 use Rattle.amr_frame.specs.declared.codec.Codec.{Codec}
-use Rattle.amr_frame.specs.declared.codec.Codec.TheVariants.{Amr, AmrWb}
 use Rattle.amr_frame.specs.Frames.{IsFrame, no_data}
 use Rattle.amr_playout.proofs.CellLists.{all-more, frames-more}
+use Rattle.amr_playout.proofs.Fronts.{no_data_is}
 use Rattle.amr_playout.proofs.missing.missing_block.Goals as goal
-
--- NO_DATA is a frame of each codec
-no_data_is : (codec : Codec) → IsFrame codec no_data
-no_data_is Amr = record { type = omega arith; known = refl; size = refl }
-no_data_is AmrWb = record { type = omega arith; known = refl; size = refl }
 
 all_no_data : (codec : Codec) (n : ℕ) → AllByRecursion (IsFrame codec) (replicate n no_data)
 all_no_data codec zero = tt

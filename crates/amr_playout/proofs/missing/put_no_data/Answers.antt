@@ -4,7 +4,7 @@ use Rattle.amr_frame.proofs.BlocksLemmas.{GotBlocks-more, GotPrefix-part}
 use Rattle.amr_frame.specs.Blocks.{GotBlocks, GotPrefix, IsPresentBlock, frames_of}
 use Rattle.amr_frame.specs.Frames.{Frame, no_data}
 use Rattle.amr_playout.proofs.Results.{on_err}
-use Rattle.amr_playout.proofs.missing.put_missing.Goals as goal
+use Rattle.amr_playout.proofs.missing.put_no_data.Goals as goal
 
 -- one more of n is the next, and the rest behind it
 rest : {X : Type 0} (k m : ℕ) (x : X) → replicate (k + suc m) x ≡ replicate k x ++ x ∷ replicate m x

@@ -1,7 +1,7 @@
 use Rattle.std.proofs.Common.{◌≡◌, IsTrue, replicate}
 use Rattle.amr_frame.specs.Blocks.{GotBlocks}
 use Rattle.amr_frame.specs.Frames.{no_data}
-use Rattle.amr_playout.proofs.missing.put_missing.Given as goal
+use Rattle.amr_playout.proofs.missing.put_no_data.Given as goal
 
 abbrev pub invariant-loop : goal.invariant-loop
 invariant-loop g l = record {
