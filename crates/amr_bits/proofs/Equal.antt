@@ -1,14 +1,14 @@
 -- Octets that are known from their bits.
-use Rattle.std.proofs.Common.{◌≡◌, ℕ, ◌+◌, ◌*◌, ◌<◌, ◌≤◌, false, List, length, get_or, sym, ap, ◌∙◌, arith, inl, inr}
+use Rattle.std.proofs.Common.{◌≡◌, ℕ, ◌+◌, ◌*◌, ◌<◌, ◌≤◌, false, List, length, take, get_or, sym, ap, ◌∙◌, arith, inl, inr}
 use Rattle.std.proofs.lemmas.Bool.{cases_lt}
-use Rattle.std.proofs.lemmas.List.{ext_get_or}
+use Rattle.std.proofs.lemmas.List.{ext_get_or, get_or-take, length-take-le}
 use mathlib.Core.HLevel.{is_prop→PathP}
 use Rattle.std.specs.Coded.{le_prop}
 use Rattle.std.proofs.Math.Bool.{Bool-set}
 use Rattle.amr_bits.specs.declared.fixed.FixedBits.{FixedBits, within-type}
-use Rattle.amr_bits.specs.Bits.{number, bit_at, bits_at, filled}
+use Rattle.amr_bits.specs.Bits.{number, bit_at, bits_at, filled, octets_for}
 use Rattle.amr_bits.proofs.Runs.{run-same, run-get, length-run}
-use Rattle.amr_bits.proofs.Filled.{bits-filled, filled-past, filled-lt}
+use Rattle.amr_bits.proofs.Filled.{bits-filled, filled-past, filled-lt, length-filled}
 use Rattle.amr_bits.proofs.Places.{number_at-octet}
 
 -- octets with the same bits are the same
@@ -42,3 +42,10 @@ octet_is octets n k small clear =
     let front : bits_at octets 0 n ≡ bits_at (filled bits) 0 n = sym (bits-filled bits) ∙ ap (bits_at (filled bits) 0) size in
     let same : (i : ℕ) → bit_at octets i ≡ bit_at (filled bits) i = same_everywhere octets (filled bits) n front clear (λ i h. filled-past bits i (omega (arith, h, size))) in
     sym (number_at-octet octets k (small k)) ∙ ap number (run-same octets (filled bits) (8 * k) (8 * k) 8 (λ i h. same (8 * k + i))) ∙ number_at-octet (filled bits) k (filled-lt bits k)
+
+-- octets that hold so many bits, and zeros behind, are in front the octets that the bits fill
+pub front_filled : (octets : List ℕ) (n m : ℕ) → m ≤ length octets → m ≡ octets_for n → ((i : ℕ) → get_or octets i 0 < 256) → ((i : ℕ) → n ≤ i → bit_at octets i ≡ false) → take m octets ≡ filled (bits_at octets 0 n)
+front_filled octets n m fits is small clear =
+    let size : length (filled (bits_at octets 0 n)) ≡ m = length-filled (bits_at octets 0 n) ∙ ap octets_for (length-run octets 0 n) ∙ sym is in
+    let front : length (take m octets) ≡ m = length-take-le m octets fits in
+    ext_get_or 0 (take m octets) (filled (bits_at octets 0 n)) (front ∙ sym size) (λ i h. get_or-take m octets i 0 (omega (arith, front)) ∙ octet_is octets n i small clear)

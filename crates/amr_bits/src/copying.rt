@@ -20,6 +20,9 @@ pub fn number_from(octets: &[u8], start: usize, width: usize) -> u32
     ensures bits { result ≡ number_at octets.now start width }
     ensures below { result < 2 ^ width }
 {
+    if 0 < width && start + width <= 16 {
+        return few_from(octets, start, width);
+    }
     let count = octets_needed(start + width);
     let mut value = 0u64;
     for at in 0..count {
@@ -27,6 +30,25 @@ pub fn number_from(octets: &[u8], start: usize, width: usize) -> u32
     }
     let behind = (8 * count - start - width) as u32;
     ((value >> behind) % (1u64 << width as u32)) as u32
+}
+
+/// The number that bits in one octet or across two spell, with no loop.
+pub fn few_from(octets: &[u8], start: usize, width: usize) -> u32
+    requires start { start < 8 }
+    requires some { 0 < width }
+    requires two { start + width ≤ 16 }
+    requires fits { start + width ≤ 8 * length octets.now }
+    ensures bits { result ≡ number_at octets.now start width }
+    ensures below { result < 2 ^ width }
+{
+    let end = start + width;
+    let modulus = 1u64 << width as u32;
+    if end <= 8 {
+        let one = octets[0] as u64;
+        return ((one >> (8 - end) as u32) % modulus) as u32;
+    }
+    let two = 256 * octets[0] as u64 + octets[1] as u64;
+    ((two >> (16 - end) as u32) % modulus) as u32
 }
 
 /// Copies whole octets that begin at bit `start`: `out` takes the bits from there on.

@@ -1,4 +1,4 @@
-ghost use Rattle.std.specs.Prelude.{◌≡◌, ℕ, ◌+◌, ◌*◌, ◌/◌, ◌≤◌, ◌<◌, ◌↔◌, [], length, false, slice_index};
+ghost use Rattle.std.specs.Prelude.{◌≡◌, ℕ, ◌+◌, ◌*◌, ◌/◌, ◌≤◌, ◌<◌, ◌↔◌, [], length, take, false, slice_index};
 ghost use Rattle.amr_bits.specs.Bits.{bit_at};
 
 use crate::copying::{are_octets, octets_needed};
@@ -14,7 +14,7 @@ pub struct FixedBits<const N: usize> {
 }
 
 impl<const N: usize> FixedBits<N> {
-    ghost use Rattle.amr_bits.specs.Bits.{filled};
+    ghost use Rattle.amr_bits.specs.Bits.{filled, octets_for};
     ghost use Rattle.amr_bits.specs.Runs.{run, kept};
 
     /// No bits.
@@ -59,6 +59,16 @@ impl<const N: usize> FixedBits<N> {
     {
         are_octets(&self.octets);
         self.octets[at]
+    }
+
+    /// The octets of the bits, filled with zero bits, lent.
+    pub fn as_octets(&self) -> &[u8]
+        ensures bits { result.now ≡ filled (kept self.now) }
+        ensures field { result.now ≡ take (octets_for self.now.len) self.now.octets }
+        ensures count { length result.now ≡ octets_for self.now.len }
+    {
+        are_octets(&self.octets);
+        &self.octets[..octets_needed(self.len)]
     }
 
     /// The bits, lent.

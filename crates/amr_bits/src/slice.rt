@@ -1,6 +1,6 @@
 ghost use Rattle.std.specs.Prelude.{◌≡◌, ℕ, ◌+◌, ◌*◌, ◌/◌, ◌%◌, ◌^◌, ◌-◌, ◌≤◌, ◌<◌, ◌↔◌, length, drop, false, IsNone, IfSome, slice_index_or};
 
-use crate::copying::{copy_octets, number_from};
+use crate::copying::{copy_octets, few_from, number_from};
 
 /// A run of bits in borrowed octets: `len` bits from bit `start` on, where bit 0 is the most
 /// significant bit of the first octet.
@@ -87,15 +87,13 @@ impl<'a> BitSlice<'a> {
         requires { length out.old ≡ octets_for self.now.len }
         ensures { out.new ≡ filled (run self.now) }
     {
+        let octets = &self.octets[self.start / 8..];
+        let start = self.start % 8;
         let whole = self.len / 8;
+        copy_octets(octets, start, &mut out[..whole]);
         let rest = self.len % 8;
-        copy_octets(
-            &self.octets[self.start / 8..],
-            self.start % 8,
-            &mut out[..whole],
-        );
         if rest > 0 {
-            let last = self.number(8 * whole, rest as u32) as u8;
+            let last = few_from(&octets[whole..], start, rest) as u8;
             out[whole] = last << (8 - rest) as u32;
         }
     }

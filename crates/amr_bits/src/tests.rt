@@ -123,6 +123,32 @@ fn reads_a_run(rt: HostRuntime) {
 }
 
 #[test]
+fn copies_a_run_at_each_place(rt: HostRuntime) {
+    let mut text = [0u8; 24];
+    for at in 0..24usize {
+        text[at] = (at * at * 7 % 251) as u8;
+    }
+    for start in 0..9usize {
+        for len in 0..181usize {
+            let run = BitSlice {
+                octets: &text,
+                start,
+                len,
+            };
+            let kept = FixedBits::<23>::load(run);
+            for at in 0..len {
+                assert_eq!(rt;
+                    kept.as_bits().bit(at),
+                    bit_of(&text, start + at),
+                    "bit {at} of {len} at place {start}"
+                );
+            }
+            assert_eq!(rt; kept.as_octets().len(), (len + 7) / 8);
+        }
+    }
+}
+
+#[test]
 fn keeps_bits(rt: HostRuntime) {
     let kept = FixedBits::<3>::load(front(&TEXT, 13));
     assert_eq!(rt; kept.len(), 13);
@@ -130,6 +156,7 @@ fn keeps_bits(rt: HostRuntime) {
         (kept.octet(0), kept.octet(1), kept.octet(2)),
         (0xb6, 0xd0, 0)
     );
+    assert_eq!(rt; kept.as_octets(), [0xb6, 0xd0].as_slice());
     assert_eq!(rt; kept.as_bits().number(8, 5), 0b11010);
     let again = FixedBits::<3>::load(kept.as_bits());
     kept.equal_by_bits(&again);

@@ -1,5 +1,5 @@
 // Writing all of a piece.
-ghost use Rattle.std.specs.Prelude.{◌≡◌, [], Ok, OnOk, OnErr};
+ghost use Rattle.std.specs.Prelude.{◌≡◌, ◌<◌, [], length, Ok, OnOk, OnErr};
 ghost use Rattle.std.specs.Io.KnownBytes.{Appends};
 ghost use Rattle.amr_io.specs.Fault.{HasCause};
 ghost use Rattle.amr_io.specs.Told.{AppendsPart};
@@ -14,6 +14,27 @@ pub fn write_whole<S: Sink>(sink: &mut S, bytes: &[u8]) -> Result<(), Failed>
     ensures whole { OnOk result (Appends (S.got sink.old) (S.got sink.new) bytes.now) }
     ensures part { OnErr result (AppendsPart (S.got sink.old) (S.got sink.new) bytes.now) }
     ensures empty { bytes.now ≡ [] → (result ≡ Ok tt) × (sink.new ≡ sink.old) }
+
+    ensures cause { HasCause (S.faults sink.old) (S.faults sink.new) result }
+    ensures beside { S.beside sink.new ≡ S.beside sink.old }
+    ensures same { S.same sink.old sink.new }
+{
+    if bytes.is_empty() {
+        return Ok(());
+    }
+    let count = sink.write(bytes)?;
+    if count < bytes.len() {
+        return write_rest(sink, &bytes[count..]);
+    }
+    Ok(())
+}
+
+/// Writes what a sink left of a piece. Most sinks take all at once, so this loop stands apart.
+fn write_rest<S: Sink>(sink: &mut S, bytes: &[u8]) -> Result<(), Failed>
+    requires some { 0 < length bytes.now }
+
+    ensures whole { OnOk result (Appends (S.got sink.old) (S.got sink.new) bytes.now) }
+    ensures part { OnErr result (AppendsPart (S.got sink.old) (S.got sink.new) bytes.now) }
 
     ensures cause { HasCause (S.faults sink.old) (S.faults sink.new) result }
     ensures beside { S.beside sink.new ≡ S.beside sink.old }

@@ -1,11 +1,10 @@
 -- The octet before the bits of a frame.
-use Rattle.std.proofs.Common.{◌≡◌, ℕ, ◌+◌, ◌*◌, ◌/◌, ◌%◌, ◌<◌, ◌≤◌, Bool, false, cond, List, [], ◌∷◌, ◌++◌, eqb, sym, refl, ap, ◌∙◌, arith, inl, inr, slice_set, replicate, take, length, min}
-use Rattle.std.proofs.lemmas.List.FromFn.{length-map-range_with_len}
+use Rattle.std.proofs.Common.{◌≡◌, ℕ, ◌+◌, ◌*◌, ◌/◌, ◌%◌, ◌<◌, ◌≤◌, Bool, false, cond, List, [], ◌∷◌, ◌++◌, eqb, sym, refl, ap, ◌∙◌, arith, inl, inr, slice_set, take, length}
 use Rattle.std.proofs.lemmas.Bool.{ne_eqb}
 use Rattle.std.proofs.lemmas.Bool.Decides.{eqb_tells}
 use Rattle.amr_frame.specs.declared.codec.Codec.{Codec}
 use Rattle.spec_store.specs.StorageFile.{header, multi, single}
-use Rattle.amr_bits.specs.Bits.{filled, nat, number, octets_for, part}
+use Rattle.amr_bits.specs.Bits.{filled, nat}
 
 -- an odd number's last bit
 parity : (n : ℕ) → cond (eqb (n % 2) 1) 1 0 ≡ n % 2
@@ -23,13 +22,6 @@ pub head : (ft : ℕ) (q : Bool) → ft ≤ 15 → (ft * 8 + cond q 1 0 * 4) ∷
 head ft q h =
     let e = head_number ft (cond (eqb (ft / 8 % 2) 1) 1 0) (cond (eqb (ft / 4 % 2) 1) 1 0) (cond (eqb (ft / 2 % 2) 1) 1 0) (cond (eqb (ft / 1 % 2) 1) 1 0) (cond q 1 0) h (parity (ft / 8)) (parity (ft / 4)) (parity (ft / 2)) (parity (ft / 1)) in
     ap (λ (n : ℕ). n ∷ []) (omega (arith, e))
-
--- how many octets bits fill
-pub length-filled : (bits : List Bool) → length (filled bits) ≡ octets_for (length bits)
-length-filled bits = length-map-range_with_len (λ k. number (part (8 * k) 8 (bits ++ replicate 7 false))) 0 (octets_for (length bits))
-
-pub rounded_up : (m n : ℕ) → m ≡ n → octets_for m ≡ n / 8 + min 1 (n % 8)
-rounded_up m n e = omega (arith, e)
 
 -- the first octet after a write to it
 pub first_set : (xs : List ℕ) (x : ℕ) → 0 < length xs → take 1 (slice_set xs 0 x) ≡ x ∷ []

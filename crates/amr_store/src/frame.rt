@@ -24,7 +24,7 @@ pub fn write_frame(cell: &Cell, out: &mut [u8; 61]) -> usize
     ensures octets { take result out.new ≡ frame_text (frame_of cell.now) }
 {
     out[0] = frame_head(cell.ft, cell.q);
-    let octets = cell.bits.len().div_ceil(8);
-    cell.bits.as_bits().copy_to(&mut out[1..1 + octets]);
-    1 + octets
+    // A copy of a fixed size is the cheapest, so it takes the octets behind the bits too; they aren't counted.
+    out[1..61].copy_from_slice(&cell.bits.octets);
+    1 + cell.bits.as_octets().len()
 }

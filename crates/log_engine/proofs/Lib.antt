@@ -2,3 +2,4 @@ pub mod GrowsLemmas
 pub mod TurnLemmas
 pub mod ProgressLemmas
 pub mod ToldLemmas
+pub mod TrayLemmas

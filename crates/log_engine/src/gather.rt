@@ -1,5 +1,5 @@
 // Octets that wait to be written.
-ghost use Rattle.std.specs.Prelude.{◌≡◌, ℕ, ◌+◌, ◌-◌, ◌≤◌, ◌<◌, ◌++◌, [], List, length, drop, IfOk, OnOk, vec_len, vec_capacity};
+ghost use Rattle.std.specs.Prelude.{◌≡◌, ℕ, ◌+◌, ◌-◌, ◌≤◌, ◌<◌, ◌++◌, [], List, length, drop, IfOk, OnOk, slice_range};
 ghost use Rattle.std.specs.Io.KnownBytes.{Keeps, append_known};
 ghost use Rattle.amr_io.specs.Fault.{HasCause};
 ghost use Rattle.log_engine.specs.Tray.{Tray, Grows};
@@ -11,24 +11,34 @@ use std::marker::Model;
 /// Octets that wait to be written, in room that is reserved at the start.
 #[derive(Drop)]
 pub struct Gather {
-    octets: Vec<u8>,
+    tray: Vec<u8>,
     sent: usize,
-    room: usize,
+    used: usize,
 }
 
 impl Model for Gather {
-    ghost use Rattle.std.specs.Prelude.{◌≡◌, ◌≤◌, drop, vec_len, vec_capacity};
+    ghost use Rattle.std.specs.Prelude.{◌≤◌, slice_range, vec_len};
     ghost use Rattle.log_engine.specs.Tray.{Tray};
 
     ghost Value = { Tray };
 
     ghost view = { λ s. record {
-      waiting = drop s.sent s.octets.items;
-      used = vec_len s.octets;
-      room = s.room;
+      waiting = slice_range s.tray.items s.sent s.used;
+      used = s.used;
+      room = vec_len s.tray;
     } };
 
-    ghost invariant = { λ s. (s.sent ≤ vec_len s.octets) × (vec_len s.octets ≤ s.room) × (s.room ≤ vec_capacity s.octets) };
+    ghost invariant = { λ s. (s.sent ≤ s.used) × (s.used ≤ vec_len s.tray) };
+}
+
+/// Puts octets at `at`, and leaves what stands before.
+fn put_at(tray: &mut [u8], at: usize, octets: &[u8])
+    requires { at + length octets.now ≤ length tray.old }
+
+    ensures size { length tray.new ≡ length tray.old }
+    ensures put { (from : ℕ) → from ≤ at → slice_range tray.new from (at + length octets.now) ≡ slice_range tray.old from at ++ octets.now }
+{
+    tray[at..at + octets.len()].copy_from_slice(octets);
 }
 
 impl Gather {
@@ -38,11 +48,11 @@ impl Gather {
     pub fn create(alloc: Global, room: usize) -> Result<Gather, AllocError>
         ensures fresh { IfOk result (λ s. s ≡ record { waiting = []; used = 0; room = room }) }
     {
-        let octets = Vec::with_capacity(alloc, room)?;
+        let tray = vec![in alloc; 0u8; room]?;
         Ok(Gather {
-            octets,
+            tray,
             sent: 0,
-            room,
+            used: 0,
         })
     }
 
@@ -50,21 +60,21 @@ impl Gather {
     pub fn free(&self) -> usize
         ensures { result + self.now.used ≡ self.now.room }
     {
-        self.room - self.octets.len()
+        self.tray.len() - self.used
     }
 
     /// How many octets there is room for in all.
     pub fn room(&self) -> usize
         ensures { result ≡ self.now.room }
     {
-        self.room
+        self.tray.len()
     }
 
     /// The octets that wait.
     pub fn waiting(&self) -> &[u8]
         ensures { result.now ≡ self.now.waiting }
     {
-        &self.octets[self.sent..]
+        &self.tray[self.sent..self.used]
     }
 
     /// Takes octets to those that wait.
@@ -72,10 +82,8 @@ impl Gather {
         requires { self.old.used + length octets.now ≤ self.old.room }
         ensures { self.new ≡ record self.old { waiting = self.old.waiting ++ octets.now; used = self.old.used + length octets.now } }
     {
-        // There is room for it.
-        let Ok(()) = self.octets.extend_from_slice(octets) else {
-            unreachable!()
-        };
+        put_at(&mut self.tray, self.used, octets);
+        self.used += octets.len();
     }
 
     /// Drops the first octets that wait.
@@ -91,8 +99,8 @@ impl Gather {
         requires { self.old.waiting ≡ [] }
         ensures { self.new ≡ record self.old { waiting = []; used = 0 } }
     {
-        self.octets.clear();
         self.sent = 0;
+        self.used = 0;
     }
 
     /// Writes the octets that wait to `output`, and keeps what it got in all, that which waits included.

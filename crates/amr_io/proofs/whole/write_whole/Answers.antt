@@ -1,15 +1,11 @@
-use Rattle.std.proofs.Common.{ℕ, arith, length-drop, length-take, ◌∙◌}
+use Rattle.std.proofs.Common.{ℕ, ◌+◌, arith, length-drop, length-take}
+use Rattle.std.proofs.lemmas.Result.{on_err_weaker}
 use Rattle.amr_io.proofs.Pieces.{appends_front}
 use Rattle.amr_io.proofs.whole.write_whole.Goals as goal
 
-pub loop-done-preserved : goal.loop-done-preserved
-loop-done-preserved g c =
-    let before = c.loop-done.invariant in
-    let clauses = c.in_ok-done.ensures in record {
-      within = omega (arith, length-drop {A = ℕ}, length-take {A = ℕ}, clauses.octets.1);
-      written = appends_front _ _ _ _ c.loop-done.done c.in_ok-done.field-0 before.written clauses.octets.2;
-      untouched = λ none. absurd (omega (arith, none, clauses.octets.0));
-      faults = clauses.cause ∙ before.faults;
-      beside = clauses.beside ∙ before.beside;
-      same = g.met.S.Sink.transitive _ _ _ before.same clauses.same;
-    }
+pub returns-then-count-bytes-clause-part : goal.returns-then-count-bytes-clause-part
+returns-then-count-bytes-clause-part g c =
+    let first = c.in_ok-count.ensures.octets in
+    on_err_weaker c.write_rest.result
+    (λ part. (c.in_ok-count.count + part.0, omega (arith, length-drop {A = ℕ}, length-take {A = ℕ}, first.1, part.1), appends_front _ _ _ _ _ _ first.2 part.2))
+    c.write_rest.ensures.part
