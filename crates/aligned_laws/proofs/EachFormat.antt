@@ -1,7 +1,8 @@
 -- The reading by places and the grammar agree in each valid format.
 use Rattle.std.proofs.Common.{◌≡◌, ℕ, Bool, true, false, List, [], sym, refl, ap, ◌∙◌, subst, Option, Some, None, Ok, Err, Result, inl, inr}
 use Rattle.std.specs.Prelude.{◌⊎◌, ◌↔◌, IsSome, is_some}
-use Rattle.aligned_laws.specs.Seen.{AreOctets, IsSeenAs}
+use Rattle.amr_bits.specs.Bits.{AreOctets}
+use Rattle.aligned_laws.specs.Seen.{IsSeenAs}
 use Rattle.amr_frame.specs.declared.profile.Profile.{Profile}
 use Rattle.amr_frame.specs.Profiles.{IsValid}
 use Rattle.spec_payload.specs.declared.refusal.PayloadRefusal.{PayloadRefusal}

@@ -1,14 +1,9 @@
 -- What it is for octets to say something as a payload of a format (RFC 4867, 4.3 and 4.4), by the grammar.
-use Rattle.std.specs.Prelude.{◌≡◌, ℕ, ◌<◌, List}
-use Rattle.std.specs.List.{AllByRecursion}
+use Rattle.std.specs.Prelude.{◌≡◌, ℕ, List}
 use Rattle.amr_frame.specs.declared.profile.Profile.{Profile}
 use Rattle.spec_payload.specs.Grammar.{IsPayload}
 use Rattle.spec_payload.specs.Seen.{seen}
 use Rattle.spec_payload.specs.Values.{Value}
-
--- octets are numbers below 256
-abbrev pub AreOctets : List ℕ → Type 0
-AreOctets octets = AllByRecursion (λ o. o < 256) octets
 
 -- octets are a payload of the format, with the CRCs that they carry, and its value is seen as w
 pub record IsSeenAs (p : Profile) (w : Value) (octets : List ℕ) : Type 0 where

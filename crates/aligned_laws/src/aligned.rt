@@ -1,5 +1,5 @@
 ghost use Rattle.std.specs.Prelude.{◌≡◌, List, None, true, ℕ};
-ghost use Rattle.aligned_laws.specs.Seen.{AreOctets};
+ghost use Rattle.amr_bits.specs.Bits.{AreOctets};
 ghost use Rattle.amr_frame.specs.Profiles.{IsValid};
 ghost use Rattle.amr_frame.specs.declared.profile.Profile.{Profile};
 ghost use Rattle.spec_payload.specs.Grammar.{IsPayload};

@@ -1,5 +1,6 @@
 ghost use Rattle.std.specs.Prelude.{◌≡◌, ◌↔◌, ◌⊎◌, IsSome, List, Ok, ℕ};
-ghost use Rattle.aligned_laws.specs.Seen.{AreOctets, IsSeenAs};
+ghost use Rattle.amr_bits.specs.Bits.{AreOctets};
+ghost use Rattle.aligned_laws.specs.Seen.{IsSeenAs};
 ghost use Rattle.amr_frame.specs.Profiles.{IsValid};
 ghost use Rattle.amr_frame.specs.declared.profile.Profile.{Profile};
 ghost use Rattle.spec_payload.specs.Grammar.{IsPayload};

@@ -1,6 +1,10 @@
 -- Lists of bits, the most significant of an octet first (RFC 4867, 4: bits stand in network order).
-use Rattle.std.specs.Prelude.{ℕ, zero, suc, ◌+◌, ◌-◌, ◌*◌, ◌/◌, ◌%◌, ◌^◌, Bool, false, cond, nat_eq, List, [], ◌∷◌, ◌++◌, length, take, drop, map, replicate, slice_index, flat_map, fold}
-use Rattle.std.specs.List.{range_with_len}
+use Rattle.std.specs.Prelude.{ℕ, zero, suc, ◌+◌, ◌-◌, ◌*◌, ◌/◌, ◌%◌, ◌^◌, ◌<◌, Bool, false, cond, nat_eq, List, [], ◌∷◌, ◌++◌, length, take, drop, map, replicate, slice_index, flat_map, fold}
+use Rattle.std.specs.List.{AllByRecursion, range_with_len}
+
+-- numbers that are octets
+abbrev pub AreOctets : List ℕ → Type 0
+AreOctets octets = AllByRecursion (λ o. o < 256) octets
 
 -- the k bits of the number n, the most significant first
 abbrev pub nat : ℕ → ℕ → List Bool

@@ -2,8 +2,7 @@
 use Rattle.std.proofs.Common.{◌≡◌, ℕ, List, length, sym, ap, ◌∙◌, subst, Option, Some, None, inl, inr, ◌⊎◌}
 use Rattle.std.specs.Prelude.{IsSome}
 use Rattle.aligned_laws.proofs.EachFormat.{either}
-use Rattle.aligned_laws.specs.Seen.{AreOctets}
-use Rattle.amr_bits.specs.Bits.{bits_of}
+use Rattle.amr_bits.specs.Bits.{AreOctets, bits_of}
 use Rattle.amr_frame.specs.Profiles.{IsValid}
 use Rattle.amr_frame.specs.declared.profile.Profile.{Profile}
 use Rattle.amr_payload.proofs.Again.{same_bits, same_size}

@@ -1,6 +1,5 @@
 ghost use Rattle.std.specs.Prelude.{◌≡◌, List, length, ℕ};
-ghost use Rattle.aligned_laws.specs.Seen.{AreOctets};
-ghost use Rattle.amr_bits.specs.Bits.{bits_of};
+ghost use Rattle.amr_bits.specs.Bits.{AreOctets, bits_of};
 ghost use Rattle.amr_frame.specs.Profiles.{IsValid};
 ghost use Rattle.amr_frame.specs.declared.profile.Profile.{Profile};
 ghost use Rattle.amr_toc.specs.Cleared.{cleared};

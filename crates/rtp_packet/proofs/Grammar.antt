@@ -4,7 +4,7 @@ use Rattle.std.specs.Prelude.{◌↔◌, Result}
 use Rattle.spec_packet.specs.Rtp.{RtpPacket, IsPacket}
 use Rattle.spec_packet.specs.RtpReading.{rtp_of, rtp_refusal, packet_at}
 use Rattle.spec_packet.specs.declared.refusal.RtpRefusal.{RtpRefusal}
-use Rattle.rtp_packet.specs.Fields.{AreOctets}
+use Rattle.amr_bits.specs.Bits.{AreOctets}
 use Rattle.rtp_packet.proofs.Marked.{fields_of, spelling, is_packet}
 use Rattle.rtp_packet.proofs.Refusals.{refused, taken}
 use Rattle.rtp_packet.proofs.Respelled.{spells, are_fields, fill_of, fill_size}

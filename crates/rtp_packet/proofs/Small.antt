@@ -2,7 +2,7 @@
 use Rattle.std.proofs.Common.{◌≡◌, ℕ, zero, suc, ◌+◌, ◌*◌, ◌/◌, ◌%◌, ◌^◌, ◌<◌, List, [], ◌∷◌, ◌++◌, length, take, drop, replicate, get_or, sym, subst, arith}
 use Rattle.std.specs.List.{AllByRecursion, flat_map}
 use Rattle.std.proofs.lemmas.List.{get_or-drop, get_or_past}
-use Rattle.rtp_packet.specs.Fields.{AreOctets}
+use Rattle.amr_bits.specs.Bits.{AreOctets}
 use Rattle.rtp_packet.specs.Written.{octets_16, octets_32}
 
 -- each is below 256, past the end too

@@ -1,12 +1,9 @@
 -- Packets whose fields fit their places (RFC 3550, 5.1 and 5.3.1), and octets whose padding is zeros. That the padding octets but the last are 0 is ours.
 use Rattle.std.specs.Prelude.{◌≡◌, ℕ, ◌+◌, ◌-◌, ◌/◌, ◌%◌, ◌^◌, ◌≤◌, ◌<◌, List, length, slice_index, IfSome}
 use Rattle.std.specs.List.{AllByRecursion}
+use Rattle.amr_bits.specs.Bits.{AreOctets}
 use Rattle.spec_packet.specs.Rtp.{Extension, RtpPacket}
 use Rattle.spec_packet.specs.RtpReading.{padding_in}
-
--- numbers that are octets
-abbrev pub AreOctets : List ℕ → Type 0
-AreOctets octets = AllByRecursion (λ o. o < 256) octets
 
 -- an extension has 16 bits and whole words, of which 16 bits can tell the number
 abbrev pub FitsExtension : Extension → Type 0

@@ -1,7 +1,8 @@
 // That the fields of a header fit their places: what the types say of them. Each call says so, and does nothing.
 ghost use Rattle.std.specs.Prelude.{◌≡◌, ◌≤◌, ◌<◌, ◌^◌, ℕ, length, option_map, IfSome};
 ghost use Rattle.std.specs.List.{AllByRecursion};
-ghost use Rattle.rtp_packet.specs.Fields.{AreFields, AreOctets, FitsExtension};
+ghost use Rattle.amr_bits.specs.Bits.{AreOctets};
+ghost use Rattle.rtp_packet.specs.Fields.{AreFields, FitsExtension};
 ghost use Rattle.rtp_packet.specs.View.{extension_of};
 ghost use Rattle.rtp_packet.specs.Written.{packet_of, IsWords};
 

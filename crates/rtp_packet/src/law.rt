@@ -2,7 +2,8 @@
 ghost use Rattle.std.specs.Prelude.{◌≡◌, ◌↔◌, List, None, Ok, ℕ};
 ghost use Rattle.rtp_packet.specs.declared.next.Next.{Next};
 ghost use Rattle.rtp_packet.specs.Cause.{Tells, IsSameAnswer};
-ghost use Rattle.rtp_packet.specs.Fields.{AreFields, AreOctets, IsPaddedByZeros};
+ghost use Rattle.amr_bits.specs.Bits.{AreOctets};
+ghost use Rattle.rtp_packet.specs.Fields.{AreFields, IsPaddedByZeros};
 ghost use Rattle.rtp_packet.specs.Written.{written};
 ghost use Rattle.spec_packet.specs.Rtp.{IsPacket, RtpPacket};
 ghost use Rattle.spec_packet.specs.RtpReading.{rtp_of, rtp_refusal, packet_at};

@@ -6,7 +6,7 @@ use Rattle.std.proofs.lemmas.List.Sums.{fold-append}
 use Rattle.std.proofs.lemmas.Bool.{ne_eqb, eq-eqb, eqb-true, eqb-false}
 use Rattle.std.proofs.lemmas.Bool.Decides.{eqb_tells}
 use Rattle.std.proofs.lemmas.List.Concat.{flat_map-append}
-use Rattle.session_laws.specs.Octets.{AreOctets}
+use Rattle.amr_bits.specs.Bits.{AreOctets}
 use Rattle.spec_packet.specs.Log.{Cut, IsCut, IsPartial, framed, log_of, cut, with_octet, is_whole}
 
 abbrev state : List (List ℕ) → List ℕ → Cut

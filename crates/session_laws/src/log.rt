@@ -1,4 +1,4 @@
-ghost use Rattle.session_laws.specs.Octets.{AreOctets};
+ghost use Rattle.amr_bits.specs.Bits.{AreOctets};
 ghost use Rattle.spec_packet.specs.Log.{IsCut, cut};
 ghost use Rattle.std.specs.Prelude.{◌≡◌, List, ℕ};
 
