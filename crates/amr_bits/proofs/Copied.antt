@@ -2,7 +2,8 @@
 use Rattle.std.proofs.Common.{◌≡◌, ℕ, zero, suc, ◌+◌, ◌-◌, ◌*◌, ◌/◌, ◌%◌, ◌^◌, ◌<◌, ◌≤◌, Bool, false, nat_eq, List, [], ◌∷◌, ◌++◌, length, take, drop, map, set, replicate, get_or, sym, refl, ap, ◌∙◌, arith, inl, inr}
 use Rattle.std.specs.List.{range_with_len}
 use Rattle.std.proofs.lemmas.Bool.{cases_lt}
-use Rattle.std.proofs.lemmas.List.{append-nil, set_at, drop_more, drop_all, get_or_append_left, get_or-append_right, get_or-replicate, get_or_past, drop-replicate, length-replicate, get_or-take, length-take-le}
+use Rattle.std.proofs.lemmas.List.{append-nil, set_at, drop_more, drop_all, get_or_append_left, get_or-append_right, get_or-replicate, get_or_past, drop-replicate, length-replicate, get_or-take, length-take-le, get_or-set_other, length-append}
+use Rattle.std.proofs.lemmas.Grind.{get_or-set_at}
 use Rattle.std.proofs.lemmas.List.Edits.{fill_by_more}
 use Rattle.std.proofs.lemmas.List.FromFn.{fill_by_all}
 use Rattle.std.proofs.lemmas.Nat.{shl_below, one_shl}
@@ -16,11 +17,36 @@ use Rattle.amr_bits.proofs.Places.{number_at-octet, number_at-within, number_at-
 pub fill_step : (f : ℕ → ℕ) (xs : List ℕ) (i v : ℕ) → i < length xs → v ≡ f i → ((k : ℕ) → k < i → get_or xs k 0 ≡ f k) → (k : ℕ) → k < i + 1 → get_or (set xs i v) k 0 ≡ f k
 fill_step f xs i v l e h k q = ap (λ (x : ℕ). get_or (set xs i x) k 0) e ∙ fill_by_more f xs i 0 l h k q
 
--- an octet of a block that is written
-pub put_block : (f : ℕ → ℕ) (xs made rest : List ℕ) (at n k : ℕ) → at ≤ length xs → length made ≡ n → at ≤ k → k < at + n → ((j : ℕ) → j < n → get_or made j 0 ≡ f (at + j)) → get_or (take at xs ++ (made ++ rest)) k 0 ≡ f k
-put_block f xs made rest at n k fits size low high h =
+-- an octet of a block that is written, of which the first m are known
+pub put_front : (f : ℕ → ℕ) (xs made rest : List ℕ) (at n m k : ℕ) → at ≤ length xs → length made ≡ n → m ≤ n → at ≤ k → k < at + m → ((j : ℕ) → j < m → get_or made j 0 ≡ f (at + j)) → get_or (take at xs ++ (made ++ rest)) k 0 ≡ f k
+put_front f xs made rest at n m k fits size part low high h =
     get_or-append_right (take at xs) (made ++ rest) at k 0 (length-take-le at xs fits) low
     ∙ get_or_append_left made rest 0 (k - at) (omega (arith, size)) ∙ h (k - at) (omega arith) ∙ ap f (omega arith)
+
+-- an octet of a block that is written
+pub put_block : (f : ℕ → ℕ) (xs made rest : List ℕ) (at n k : ℕ) → at ≤ length xs → length made ≡ n → at ≤ k → k < at + n → ((j : ℕ) → j < n → get_or made j 0 ≡ f (at + j)) → get_or (take at xs ++ (made ++ rest)) k 0 ≡ f k
+put_block f xs made rest at n k fits size low high h = put_front f xs made rest at n n k fits size (omega arith) low high h
+
+-- one octet more behind those of a block that are known
+pub put_last : (f : ℕ → ℕ) (xs : List ℕ) (at m v k : ℕ) → at + m < length xs → v ≡ f (at + m) → ((k : ℕ) → at ≤ k → k < at + m → get_or xs k 0 ≡ f k) → at ≤ k → k < at + (m + 1) → get_or (set xs (at + m) v) k 0 ≡ f k
+put_last f xs at m v k within e h low high =
+    elim (cases_lt k (at + m)) [
+      | inl before ↦ get_or-set_other xs (at + m) k v 0 (λ q. absurd (omega (arith, q, before))) ∙ h k low before
+      | inr last ↦
+          let here : k ≡ at + m = omega arith in
+          get_or-set_at xs (at + m) k v 0 here within ∙ e ∙ ap f (sym here)
+    ]
+
+-- a block that is written stands within
+pub put_within : (xs made rest : List ℕ) (at n m : ℕ) → at ≤ length xs → length made ≡ n → m < n → at + m < length (take at xs ++ (made ++ rest))
+put_within xs made rest at n m fits size low =
+    omega (arith, size, length-append (take at xs) (made ++ rest), length-append made rest, length-take-le at xs fits)
+
+-- what stands before a block that is written, and before an octet of it
+pub put_before : (xs made rest : List ℕ) (at m v k : ℕ) → at ≤ length xs → k < at → get_or (set (take at xs ++ (made ++ rest)) (at + m) v) k 0 ≡ get_or xs k 0
+put_before xs made rest at m v k fits h =
+    get_or-set_other (take at xs ++ (made ++ rest)) (at + m) k v 0 (λ q. absurd (omega (arith, q, h)))
+    ∙ get_or_append_left (take at xs) (made ++ rest) 0 k (omega (arith, length-take-le at xs fits)) ∙ get_or-take at xs k 0 h
 
 -- a block more behind the octets that are copied, or over the last of them
 pub block_more : (f : ℕ → ℕ) (xs ys : List ℕ) (done at n : ℕ) → at ≤ done → ((k : ℕ) → k < done → get_or xs k 0 ≡ f k) → ((k : ℕ) → k < at → get_or ys k 0 ≡ get_or xs k 0) → ((k : ℕ) → at ≤ k → k < at + n → get_or ys k 0 ≡ f k) → (k : ℕ) → k < at + n → get_or ys k 0 ≡ f k

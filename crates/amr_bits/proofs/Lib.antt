@@ -5,3 +5,4 @@ pub mod Places
 pub mod Copied
 pub mod Equal
 pub mod Joined
+pub mod Words

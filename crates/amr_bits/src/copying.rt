@@ -5,6 +5,9 @@ ghost use Rattle.amr_bits.specs.Bits.{number_at, octets_for};
 /// How many octets are copied at once: as many as one instruction works on.
 const BLOCK: usize = 16;
 
+/// How many octets are copied at once where there are fewer: as many as a number has.
+const WORD: usize = 8;
+
 /// How many octets hold so many bits.
 pub fn octets_needed(bits: usize) -> usize
     ensures { result ≡ octets_for bits }
@@ -71,8 +74,10 @@ fn copy_shifted(octets: &[u8], shift: u32, out: &mut [u8])
     requires fits { length out.old < length octets.now }
     ensures { out.new ≡ map (λ k. number_at octets.now (8 * k + shift) 8) (range_with_len 0 (length out.old)) }
 {
-    if out.len() < BLOCK {
+    if out.len() < WORD {
         copy_each(octets, shift, out);
+    } else if out.len() < BLOCK {
+        copy_words(octets, shift, out);
     } else {
         copy_blocks(octets, shift, out);
     }
@@ -88,6 +93,55 @@ fn copy_each(octets: &[u8], shift: u32, out: &mut [u8])
     for at in 0..out.len() {
         out[at] = across(octets[at], octets[at + 1], shift);
     }
+}
+
+/// Copies octets that stand across two each as two words, of which the last may lie over the first.
+fn copy_words(octets: &[u8], shift: u32, out: &mut [u8])
+    requires above { 0 < shift }
+    requires below { shift < 8 }
+    requires word { 8 ≤ length out.old }
+    requires most { length out.old ≤ 16 }
+    requires fits { length out.old < length octets.now }
+    ensures { out.new ≡ map (λ k. number_at octets.now (8 * k + shift) 8) (range_with_len 0 (length out.old)) }
+{
+    let last = out.len() - WORD;
+    copy_word(octets, shift, out, 0);
+    copy_word(octets, shift, out, last);
+}
+
+/// Copies the word from octet `at` on, and leaves the octets before it.
+fn copy_word(octets: &[u8], shift: u32, out: &mut [u8], at: usize)
+    requires above { 0 < shift }
+    requires below { shift < 8 }
+    requires word { at + 8 ≤ length out.old }
+    requires fits { length out.old < length octets.now }
+    ensures copied { (k : ℕ) → at ≤ k → k < at + 8 → slice_index out.new k ≡ number_at octets.now (8 * k + shift) 8 }
+    ensures before { (k : ℕ) → k < at → slice_index out.new k ≡ slice_index out.old k }
+{
+    out[at..at + WORD].copy_from_slice(&word_at(octets, shift, at));
+    // Into the last octet come bits of a ninth. It is put by itself, so that the compiler sees of the others that the
+    // octets of a number are only turned around, which is one instruction.
+    out[at + 7] = across(octets[at + 7], octets[at + 8], shift);
+}
+
+/// The word from octet `at` on, without the bits of a ninth octet that come into its last.
+fn word_at(octets: &[u8], shift: u32, at: usize) -> [u8; WORD]
+    requires above { 0 < shift }
+    requires below { shift < 8 }
+    requires fits { at + 8 ≤ length octets.now }
+    ensures { (k : ℕ) → k < 7 → slice_index result k ≡ number_at octets.now (8 * (at + k) + shift) 8 }
+{
+    let front = u64::from_be_bytes([
+        octets[at],
+        octets[at + 1],
+        octets[at + 2],
+        octets[at + 3],
+        octets[at + 4],
+        octets[at + 5],
+        octets[at + 6],
+        octets[at + 7],
+    ]);
+    (front << shift).to_be_bytes()
 }
 
 /// Copies octets that stand across two each, a block at a time; the last block may lie over the one before it.

@@ -1,4 +1,4 @@
-use Rattle.std.proofs.Common.{ap, ◌∙◌, arith}
+use Rattle.std.proofs.Common.{arith}
 use Rattle.amr_bits.proofs.Equal.{front_filled}
 use Rattle.amr_bits.proofs.fixed.FixedBits.as_octets.Goals as goal
 
