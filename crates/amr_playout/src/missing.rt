@@ -30,7 +30,6 @@ pub fn put_missing<B: BlockSink>(channels: usize, count: u64, out: &mut B) -> Re
 }
 
 /// Puts out one block of NO_DATA, as often as this.
-#[cold]
 #[inline(never)]
 fn put_no_data<B: BlockSink>(channels: usize, count: u64, out: &mut B) -> Result<(), Failed>
     requires few { channels ≤ 6 }
