@@ -7,7 +7,7 @@ ghost use Rattle.amr_playout.specs.Window.{held_of, item};
 ghost use Rattle.spec_session.specs.Quality.{better, stored};
 
 use amr_frame::{Cell, Codec};
-use amr_merge::{better_is_the_greater, keep_better};
+use amr_merge::keep_better;
 use circular_buffer::HeapCircularBuffer;
 use std::alloc::{AllocError, Global};
 
@@ -90,24 +90,6 @@ pub fn push_absent(ring: &mut HeapCircularBuffer<Cell>, codec: Codec, count: usi
     }
 }
 
-/// Keeps the better of a cell and a frame in the cell, and tells whether the cell had one.
-fn keep(codec: Codec, cell: &mut Cell, frame: &Cell) -> bool
-    requires cell { IsCell codec cell.old }
-    requires frame { IsCell codec frame.now }
-
-    ensures better { held cell.new ≡ better codec (held cell.old) (held frame.now) }
-    ensures had { result ≡ is_some (held cell.old) }
-    ensures valid { IsCell codec cell.new }
-{
-    if cell.present {
-        keep_better(codec, cell, frame);
-        return true;
-    }
-    better_is_the_greater();
-    *cell = *frame;
-    false
-}
-
 /// Merges a frame into a cell, and tells whether the cell had one.
 pub fn merge(ring: &mut HeapCircularBuffer<Cell>, codec: Codec, index: usize, frame: &Cell) -> bool
     requires within { index < length ring.old.items }
@@ -121,7 +103,9 @@ pub fn merge(ring: &mut HeapCircularBuffer<Cell>, codec: Codec, index: usize, fr
     ensures capacity { ring.new.capacity ≡ ring.old.capacity }
 {
     if let Some(cell) = ring.get_mut(index) {
-        keep(codec, cell, frame)
+        let had = cell.present;
+        keep_better(codec, cell, frame);
+        had
     } else {
         false
     }
