@@ -16,6 +16,7 @@ ghost use Rattle.spec_session.specs.Session.{Accepted, blocks_in};
 use crate::frames::Frames;
 use crate::plan::Plan;
 use crate::session::{Begun, Head};
+use crate::shares::share_of;
 use crate::slide::{later, slide};
 use crate::take::take_all;
 use amr_frame::{BlockSink, Cell};
@@ -103,7 +104,7 @@ pub fn last_of<P: Frames>(plan: &Plan, place: u64, payload: &P) -> u64
     ensures fits { result < place + plan.now.window }
     ensures after { place ≤ result }
 {
-    let blocks = payload.frames() / usize::from(plan.profile.channels);
+    let blocks = share_of(payload.frames(), usize::from(plan.profile.channels));
     place + (blocks - 1) as u64 * u64::from(payload.stride())
 }
 
@@ -205,7 +206,7 @@ fn late_blocks<P: Frames>(plan: &Plan, edge: u64, place: u64, payload: &P) -> u3
         → result ≡ late_in (rules_in plan.now) a }
     ensures few { result ≤ length (P.value payload.now).frames }
 {
-    let blocks = payload.frames() / usize::from(plan.profile.channels);
+    let blocks = share_of(payload.frames(), usize::from(plan.profile.channels));
     let stride = u64::from(payload.stride());
     let mut late = 0;
     for block in 0..blocks {

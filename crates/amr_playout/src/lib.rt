@@ -17,6 +17,7 @@ mod receiver;
 mod rest;
 mod ring;
 mod session;
+mod shares;
 mod slide;
 mod take;
 

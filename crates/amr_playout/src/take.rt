@@ -13,6 +13,7 @@ ghost use Rattle.spec_session.specs.Session.{Accepted, blocks_in};
 use crate::frames::Frames;
 use crate::plan::Plan;
 use crate::ring::merge;
+use crate::shares::{channel_of, share_of};
 use amr_frame::Cell;
 use circular_buffer::HeapCircularBuffer;
 
@@ -141,7 +142,7 @@ pub fn take_all<P: Frames>(
     let mut merged = Merged { next, copies: 0 };
     let mut walked = payload.first_place();
     for index in 0..payload.frames() {
-        let spot = place + (index / channels) as u64 * stride as u64;
+        let spot = place + share_of(index, channels) as u64 * stride as u64;
         let frame = payload.next_frame(index, &mut walked);
         merged = take_in(
             ring,
@@ -149,7 +150,7 @@ pub fn take_all<P: Frames>(
             base,
             edge,
             spot,
-            index % channels,
+            channel_of(index, channels),
             &frame,
             merged,
         );

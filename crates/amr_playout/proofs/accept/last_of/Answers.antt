@@ -15,8 +15,8 @@ returns-clause-fits g c =
     let v : Value = g.P.Frames.value c.args.payload.now in
     let f : Fitting c.args.plan.now v = fitting c.args.plan.now (g.P.Frames.profile c.args.payload.now) v (facts c.args.plan.now c.requires.plan) c.requires.read c.frames.ensures.valid in
     let fits = f.fits in
-    let same : (length v.frames / c.args.plan.now.profile.channels - 1) * v.stride ≡ (c.frames.result / c.from.result - 1) * c.from-2.result =
-    ap (λ k. (k / c.args.plan.now.profile.channels - 1) * v.stride) (sym c.frames.ensures.count)
-    ∙ ap (λ k. (c.frames.result / k - 1) * v.stride) (sym c.from.ensures)
-    ∙ ap (λ k. (c.frames.result / c.from.result - 1) * k) (sym (c.from-2.ensures ∙ c.stride.ensures)) in
+    let count = c.share_of-blocks.ensures ∙ (λ i. c.frames.ensures.count i / c.from.ensures i) in
+    let same : (length v.frames / c.args.plan.now.profile.channels - 1) * v.stride ≡ (c.share_of-blocks.result - 1) * c.from-2.result =
+    ap (λ k. (k - 1) * v.stride) (sym count)
+    ∙ ap (λ k. (c.share_of-blocks.result - 1) * k) (sym (c.from-2.ensures ∙ c.stride.ensures)) in
     omega (arith, same)

@@ -32,9 +32,9 @@ returns g c = record {
       let v : Value = g.P.Frames.value c.args.payload.now in
       let t = c.loop-block-test.false in
       let e = c.loop-block.auto.block-end in
-      let end : c.loop-block.block ≡ c.frames.result / c.from.result = omega arith in
-      let count : c.frames.result / c.from.result ≡ blocks_in rules a.packet.value =
-      ap (λ n. n / c.from.result) c.frames.ensures.count ∙ ap (λ n. length v.frames / n) c.from.ensures ∙ ap (blocks_in rules) (sym is) in
+      let end : c.loop-block.block ≡ c.share_of-blocks.result = omega arith in
+      let count : c.share_of-blocks.result ≡ blocks_in rules a.packet.value =
+      c.share_of-blocks.ensures ∙ ap (λ n. n / c.from.result) c.frames.ensures.count ∙ ap (λ n. length v.frames / n) c.from.ensures ∙ ap (blocks_in rules) (sym is) in
       c.loop-block.invariant.late a is here edge ∙ ap (count_to (λ k. not (in_time rules a (block_place a k)))) (end ∙ count));
   few = (let t = c.loop-block-test.false in let f = c.loop-block.invariant.few in let e = c.loop-block.auto.block-end in let n = c.frames.ensures.count in omega (arith, f, n));
 }

@@ -18,25 +18,29 @@ loop-index-preserved g c =
     let n : ℕ = rules.channels in
     let i : ℕ = c.loop-index.index in
     let f : Frame = frame_of c.next_frame-frame.result in
+    let block = c.share_of.ensures in
     let stride = c.stride-stride.ensures in
+    let channel = c.channel_of.ensures in
+    let same : newly (at c.args.edge) (at (c.args.place + c.share_of.result * c.stride-stride.result)) c.channel_of.result f ≡ newly (at c.args.edge) (at (c.args.place + (i / n) * v.stride)) (i % n) f =
+    (λ j. newly (at c.args.edge) (at (c.args.place + block j * stride j)) (channel j) f) in
     let inv = c.loop-index.invariant in
     let step = c.take_in-merged.ensures in
     record {
       cells = λ a cs is here edge held.
           step.cells (cs ++ copies_to rules a i) (inv.cells a cs is here edge held)
-          ∙ ap (λ s. window_of rules ((cs ++ copies_to rules a i) ++ newly (at c.args.edge) (at (c.args.place + (i / n) * s)) (i % n) f) (at c.args.base)) stride
+          ∙ ap (λ x. window_of rules ((cs ++ copies_to rules a i) ++ x) (at c.args.base)) same
           ∙ ap (λ ds. window_of rules ds (at c.args.base)) (frame_more rules a v (at c.args.edge) c.args.place i f cs is here edge c.next_frame-frame.ensures.frame);
       next = λ a is here edge.
           step.next
-          ∙ ap (λ s. least (at c.loop-index.merged.next) (newly (at c.args.edge) (at (c.args.place + (i / n) * s)) (i % n) f)) stride
+          ∙ ap (least (at c.loop-index.merged.next)) same
           ∙ frame_more_least rules a v (at c.args.edge) (at c.args.next) (at c.loop-index.merged.next) c.args.place i f is here edge c.next_frame-frame.ensures.frame (inv.next a is here edge);
       copies = λ a cs is here edge held.
           (let so_far = inv.copies a cs is here edge held in
           let more = step.copies (cs ++ copies_to rules a i) (inv.cells a cs is here edge held) in
-          let same : repeated ((cs ++ copies_to rules a i) ++ newly (at c.args.edge) (at (c.args.place + (i / n) * c.stride-stride.result)) (i % n) f) ≡ repeated (cs ++ copies_to rules a (i + 1)) =
-          ap (λ s. repeated ((cs ++ copies_to rules a i) ++ newly (at c.args.edge) (at (c.args.place + (i / n) * s)) (i % n) f)) stride
+          let all : repeated ((cs ++ copies_to rules a i) ++ newly (at c.args.edge) (at (c.args.place + c.share_of.result * c.stride-stride.result)) c.channel_of.result f) ≡ repeated (cs ++ copies_to rules a (i + 1)) =
+          ap (λ x. repeated ((cs ++ copies_to rules a i) ++ x)) same
           ∙ ap repeated (frame_more rules a v (at c.args.edge) c.args.place i f cs is here edge c.next_frame-frame.ensures.frame) in
-          omega (arith, so_far, more, same));
+          omega (arith, so_far, more, all));
       few = (let more = step.few in let so_far = inv.few in omega arith);
       stands = c.next_frame-frame.ensures.stands;
       valid = step.valid;
@@ -55,7 +59,8 @@ take_in-merged-requires-clause-high g c =
     let low : i / n ≤ length v.frames / n - 1 = block_of n (length v.frames) i c.requires.channels (let t = c.loop-index-test.true in omega arith) c.requires.whole in
     let le : (i / n) * s ≤ (length v.frames / n - 1) * s = mul-le (i / n) s (length v.frames / n - 1) s low (omega arith) in
     let same : (length v.frames / n - 1) * s ≡ (length v.frames / n - 1) * v.stride = ap (λ k. (length v.frames / n - 1) * k) stride in
-    omega (arith, c.requires.high, le, same)
+    let block : c.share_of.result * s ≡ (i / n) * s = ap (λ k. k * s) c.share_of.ensures in
+    omega (arith, c.requires.high, le, same, block)
 
 pub take_in-merged-requires-clause-few : goal.take_in-merged-requires-clause-few
 take_in-merged-requires-clause-few g c =
