@@ -1,5 +1,6 @@
 -- Lists of cells, and what they hold.
 use Rattle.std.proofs.Common.{ℕ, zero, suc, ◌<◌, ◌≡◌, Bool, true, false, cond, List, [], ◌∷◌, ◌++◌, length, take, drop, replicate, get_or, set, slice_get, refl, ap, ◌∙◌, arith, Some, None}
+use Rattle.std.specs.Prelude.{is_some}
 use Rattle.std.specs.List.{AllByRecursion}
 use Rattle.amr_frame.specs.declared.cell.Cell.{Cell}
 use Rattle.amr_frame.specs.declared.codec.Codec.{Codec}
@@ -35,6 +36,9 @@ pub held-get : (xs : List Cell) (i : ℕ) (d : Cell) → i < length xs → item 
 held-get [] i d h = absurd (omega arith)
 held-get (y ∷ xs) zero d h = refl
 held-get (y ∷ xs) (suc i) d h = held-get xs i d (omega arith)
+
+pub present_some : (x : Cell) → is_some (held x) ≡ x.present
+present_some x = elim x.present as (λ b. is_some (cond b (Some (frame_of x)) None) ≡ b) [ true ↦ refl | false ↦ refl ]
 
 pub all-replicate : (P : Cell → Type 0) (n : ℕ) (x : Cell) → P x → AllByRecursion P (replicate n x)
 all-replicate P zero x p = tt
