@@ -29,6 +29,7 @@ impl<const N: usize> FixedBits<N> {
     }
 
     /// The bits of a run, at most `8 * N`.
+    #[inline(always)]
     pub fn load(bits: BitSlice<'_>) -> FixedBits<N>
         requires { bits.len ≤ 8 * N }
         ensures bits { kept result ≡ run bits.entry }

@@ -48,6 +48,7 @@ impl Cell {
     }
 
     /// A frame of the codec with these bits, as many as its type has.
+    #[inline(always)]
     pub fn from_bits(codec: Codec, ft: u8, q: bool, bits: BitSlice<'_>) -> Cell
         requires type_exists { ft ≤ 15 }
         requires not_reserved { is_reserved codec ft ≡ false }

@@ -22,6 +22,7 @@ pub struct Slid {
 }
 
 /// Slides the window of a session that has copies from its horizon to a later one.
+#[inline(always)]
 pub fn slide<B: BlockSink>(
     ring: &mut HeapCircularBuffer<Cell>,
     plan: &Plan,

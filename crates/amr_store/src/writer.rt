@@ -166,6 +166,7 @@ impl<'a, O: Sink> BlockSink for StoreWriter<'a, O> {
 
     ghost same = { λ v w. SameSink O.same v w };
 
+    #[inline(always)]
     fn put_block(&mut self, cells: &[Cell]) -> Result<(), Failed> {
         self.stage = Stage::Spent;
         write_cells(cells, self.sink)?;

@@ -10,6 +10,7 @@ use amr_frame::{Profile, bits_of, octets_of};
 use spec_payload::PayloadRefusal;
 
 /// The number of bits of the frames before frame `at`.
+#[inline(always)]
 pub fn bits_before(profile: &Profile, toc: &Toc<'_>, at: usize) -> usize
     requires { at ≤ length (listed toc.now) }
     ensures sum { result ≡ sum (map (bits_in profile.now.codec) (take at (types_of (listed toc.now)))) }

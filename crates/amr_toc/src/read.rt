@@ -13,6 +13,7 @@ use spec_payload::PayloadRefusal;
 /// (4.4.2). The bits behind the table aren't looked at. Refuses a table that isn't ended (P4), that has
 /// a reserved type (P5), too many entries (P6), or entries that aren't whole blocks (P7): the first that
 /// holds, by the first entry at which one of P4 to P6 does.
+#[inline(always)]
 pub fn read_toc<'a>(
     profile: &Profile,
     bits: BitSlice<'a>,
@@ -39,6 +40,7 @@ pub fn read_toc<'a>(
 }
 
 /// How many entries there are up to the first that has F = 0.
+#[inline(always)]
 fn count_entries(
     profile: &Profile,
     bits: BitSlice<'_>,

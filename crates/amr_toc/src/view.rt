@@ -40,6 +40,7 @@ impl<'a> PayloadView<'a> {
     ghost use Rattle.spec_payload.specs.Grammar.{check_of};
 
     /// The view of a payload's octets, of which `toc` is the table of contents.
+    #[inline(always)]
     pub fn over(profile: &Profile, octets: &'a [u8], toc: Toc<'a>) -> PayloadView<'a>
         requires valid { IsValid profile.now }
         requires accepted { payload_refusal profile.now octets.now ≡ None }

@@ -54,6 +54,7 @@ impl<'a, O: Sink> Sink for GatherSink<'a, O> {
     ghost same = { λ s t. (t.output.ghost_name ≡ s.output.ghost_name) × O.same s.output.now t.output.now × Grows (O.got s.output.now) (O.got t.output.now) };
 
     /// Takes all of `bytes` where there is room for them once what waits is written, and else what the output takes.
+    #[inline(always)]
     fn write(&mut self, bytes: &[u8]) -> Result<usize, Failed> {
         if self.gather.free() < bytes.len() {
             self.flush()?;
