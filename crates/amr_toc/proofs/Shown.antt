@@ -82,3 +82,7 @@ size_is p octets es k len e is h at l = l ∙ ap (bits_in p.codec) (ft_is p octe
 
 pub entry_ft : (p : Profile) (octets : List ℕ) (es : List Entry) (k : ℕ) (e : Entry) → es ≡ toc_at p octets → k < length es → e ≡ get_or es k e → e.ft ≡ (get_or (value_at p octets).frames k no_data).ft
 entry_ft p octets es k e is h at = ft_is p octets es k e is h at ∙ sym (ap (λ (f : Frame). f.ft) (frame_is p octets k (subst (λ m. k < m) (entries_are p octets es is) h)))
+
+-- the bits that a frame of this type has
+pub size_of : (p : Profile) (octets : List ℕ) (k ft len : ℕ) → k < entries p octets → ft ≡ (get_or (value_at p octets).frames k no_data).ft → len ≡ bits_in p.codec ft → len ≡ size p octets k
+size_of p octets k ft len h t l = l ∙ ap (bits_in p.codec) (t ∙ ap (λ (f : Frame). f.ft) (frame_is p octets k h))

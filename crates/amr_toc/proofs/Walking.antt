@@ -1,15 +1,11 @@
 -- How the place of a frame follows from that of the frame before.
-use Rattle.std.proofs.Common.{◌≡◌, ℕ, ◌+◌, ◌*◌, ◌<◌, Bool, true, false, cond, length, map, take, get_or, ap, sym, ◌∙◌, refl, arith}
-use Rattle.std.specs.List.{sum_by}
-use Rattle.std.specs.Prelude.{List, sum}
-use Rattle.std.proofs.lemmas.List.Sums.{sum_by_more}
-use Rattle.amr_frame.specs.declared.codec.Codec.{Codec}
+use Rattle.std.proofs.Common.{◌≡◌, ℕ, ◌+◌, ◌*◌, ◌<◌, Bool, true, false, cond, List, length, map, take, get_or, ap, sym, ◌∙◌, refl, arith}
+use Rattle.std.specs.Prelude.{sum}
+use Rattle.std.proofs.lemmas.List.{take-map}
+use Rattle.std.proofs.lemmas.List.Sums.{sum-map, sum_by_more}
 use Rattle.amr_frame.specs.declared.profile.Profile.{Profile}
 use Rattle.amr_frame.specs.Tables.{bits_in, octets_in}
-use Rattle.amr_toc.specs.declared.entry.Entry.{Entry}
-use Rattle.amr_toc.specs.Lists.{types_of}
-use Rattle.amr_toc.specs.Places.{bits_to, sizes_in}
-use Rattle.amr_toc.proofs.Sizes as sizes
+use Rattle.amr_toc.specs.Places.{bits_to}
 
 -- the room of a frame of a type
 abbrev pub room_in : Profile → ℕ → ℕ
@@ -24,22 +20,16 @@ pub walk_begins : (p : Profile) (fts : List ℕ) → bits_to p fts 0 ≡ 0
 walk_begins p fts = first p.octet_aligned
 
 -- each later one behind the one before
-bits_more : (codec : Codec) (es : List Entry) (k : ℕ) (e : Entry) → k < length es → e ≡ get_or es k e → sum (map (bits_in codec) (take (k + 1) (types_of es))) ≡ sum (map (bits_in codec) (take k (types_of es))) + bits_in codec e.ft
-bits_more codec es k e h at =
-    sizes.bits_to codec es (k + 1)
-    ∙ sum_by_more (λ (x : Entry). bits_in codec x.ft) es k e h
-    ∙ (λ i. sym (sizes.bits_to codec es k) i + bits_in codec (sym at i).ft)
+sum_more : (f : ℕ → ℕ) (xs : List ℕ) (k : ℕ) → k < length xs → sum (map f (take (k + 1) xs)) ≡ sum (map f (take k xs)) + f (get_or xs k 0)
+sum_more f xs k h = sum-map f (take (k + 1) xs) ∙ sum_by_more f xs k 0 h ∙ ap (λ n. n + f (get_or xs k 0)) (sym (sum-map f (take k xs)))
 
-octets_more : (codec : Codec) (es : List Entry) (k : ℕ) (e : Entry) → k < length es → e ≡ get_or es k e → sum (take (k + 1) (map (octets_in codec) (types_of es))) ≡ sum (take k (map (octets_in codec) (types_of es))) + octets_in codec e.ft
-octets_more codec es k e h at =
-    sizes.octets_to codec es (k + 1)
-    ∙ sum_by_more (λ (x : Entry). octets_in codec x.ft) es k e h
-    ∙ (λ i. sym (sizes.octets_to codec es k) i + octets_in codec (sym at i).ft)
+taken_more : (f : ℕ → ℕ) (xs : List ℕ) (k : ℕ) → k < length xs → sum (take (k + 1) (map f xs)) ≡ sum (take k (map f xs)) + f (get_or xs k 0)
+taken_more f xs k h = ap sum (take-map f (k + 1) xs) ∙ sum_more f xs k h ∙ ap (λ ys. sum ys + f (get_or xs k 0)) (sym (take-map f k xs))
 
-more_room : (b : Bool) (o oo r bb bo s : ℕ) → oo ≡ o + r → bb ≡ bo + s → cond b (8 * oo) bb ≡ cond b (8 * o) bo + cond b (8 * r) s
-more_room true o oo r bb bo s e f = omega arith
-more_room false o oo r bb bo s e f = f
+more_room : (b : Bool) (o oo r bo bb s : ℕ) → oo ≡ o + r → bb ≡ bo + s → cond b (8 * oo) bb ≡ cond b (8 * o) bo + cond b (8 * r) s
+more_room true o oo r bo bb s e f = omega arith
+more_room false o oo r bo bb s e f = f
 
-pub walk_goes_on : (p : Profile) (es : List Entry) (k : ℕ) (e : Entry) → k < length es → e ≡ get_or es k e → bits_to p (types_of es) (k + 1) ≡ bits_to p (types_of es) k + room_in p e.ft
-walk_goes_on p es k e h at =
-    more_room p.octet_aligned _ _ _ _ _ _ (octets_more p.codec es k e h at) (bits_more p.codec es k e h at)
+pub walk_goes_on : (p : Profile) (fts : List ℕ) (k : ℕ) → k < length fts → bits_to p fts (k + 1) ≡ bits_to p fts k + room_in p (get_or fts k 0)
+walk_goes_on p fts k h =
+    more_room p.octet_aligned _ _ _ _ _ _ (taken_more (octets_in p.codec) fts k h) (sum_more (bits_in p.codec) fts k h)

@@ -37,7 +37,6 @@ pub struct PayloadView<'a> {
 impl<'a> PayloadView<'a> {
     ghost use Rattle.amr_toc.specs.Viewed.{checks_to, format_of, frame_in, is_damaged, octets_of, said, standing, viewed};
     ghost use Rattle.amr_toc.specs.Walks.{StandsAt};
-    ghost use Rattle.spec_payload.specs.Grammar.{check_of};
 
     /// The view of a payload's octets, of which `toc` is the table of contents.
     #[inline(always)]
@@ -131,10 +130,17 @@ impl<'a> PayloadView<'a> {
         if !self.profile.crc {
             return false;
         }
-        if bits_of(self.profile.codec, self.toc.entry(at).ft) == 0 {
-            return false;
+        let ft = self.entry(at).ft;
+        if !self.profile.sorting {
+            return self.check_differs(at, ft, self.run_of(at));
         }
-        self.check_sent(at) != self.check_due(at)
+        let gathered = self.gathered(at);
+        let bits = BitSlice {
+            octets: &gathered,
+            start: 0,
+            len: bits_of(self.profile.codec, ft),
+        };
+        self.check_differs(at, ft, bits)
     }
 
     /// Octet `octet` of frame `at`. In an octet-aligned payload its fill bits are as they stand, in
@@ -175,7 +181,7 @@ impl<'a> PayloadView<'a> {
         ensures frame { held result ≡ Some (frame_in (viewed self.now) at) }
         ensures valid { IsCell (format_of self.now).codec result }
     {
-        self.frame_from(at, self.start_of(at))
+        self.frame_from(at, self.entry(at), self.start_of(at))
     }
 
     /// Where the first frame begins, for `next_frame`.
@@ -194,9 +200,10 @@ impl<'a> PayloadView<'a> {
         ensures valid { IsCell (format_of self.now).codec result }
         ensures stands { StandsAt self.now place.new (at + 1) }
     {
+        let entry = self.entry(at);
         let start = *place;
-        *place += self.room_of(self.toc.entry(at).ft);
-        self.frame_from(at, start)
+        *place += self.room_of(entry.ft);
+        self.frame_from(at, entry, start)
     }
 
     /// How many bits of the body a frame of this type takes up.
@@ -212,18 +219,18 @@ impl<'a> PayloadView<'a> {
         }
     }
 
-    /// Frame `at`, which begins at bit `start` where the octets aren't sorted.
-    fn frame_from(&self, at: usize, start: usize) -> Cell
+    /// Frame `at`, which has this entry and begins at bit `start` where the octets aren't sorted.
+    fn frame_from(&self, at: usize, entry: Entry, start: usize) -> Cell
         requires frame { at < length (viewed self.now).frames }
+        requires small { entry.ft ≤ 15 }
+        requires ft { entry.ft ≡ (frame_in (said self.now) at).ft }
+        requires quality { entry.q ≡ (frame_in (said self.now) at).q }
         requires start { start ≡ self.now.body + bits_to self.now.profile (types_of (listed self.now.toc)) at }
         ensures frame { held result ≡ Some (frame_in (viewed self.now) at) }
         ensures valid { IsCell (format_of self.now).codec result }
     {
-        let entry = self.entry(at);
-        let damaged = self.damaged(at);
-        let q = entry.q && !damaged;
         if !self.profile.sorting {
-            return Cell::from_bits(self.profile.codec, entry.ft, q, self.run_from(at, start));
+            return self.seen_as(at, entry, self.run_from(at, entry.ft, start));
         }
         let gathered = self.gathered(at);
         let bits = BitSlice {
@@ -231,7 +238,41 @@ impl<'a> PayloadView<'a> {
             start: 0,
             len: bits_of(self.profile.codec, entry.ft),
         };
+        self.seen_as(at, entry, bits)
+    }
+
+    /// Frame `at`, which has this entry and these bits, with Q = 0 where it is damaged.
+    fn seen_as(&self, at: usize, entry: Entry, bits: BitSlice<'_>) -> Cell
+        requires frame { at < length (viewed self.now).frames }
+        requires small { entry.ft ≤ 15 }
+        requires ft { entry.ft ≡ (frame_in (said self.now) at).ft }
+        requires quality { entry.q ≡ (frame_in (said self.now) at).q }
+        requires bits { run bits ≡ (frame_in (said self.now) at).bits }
+        requires len { bits.len ≡ bits_in self.now.profile.codec entry.ft }
+        ensures frame { held result ≡ Some (frame_in (viewed self.now) at) }
+        ensures valid { IsCell (format_of self.now).codec result }
+    {
+        let damaged = self.check_differs(at, entry.ft, bits);
+        let q = entry.q && !damaged;
         Cell::from_bits(self.profile.codec, entry.ft, q, bits)
+    }
+
+    /// Whether frame `at`, which has this type and these bits, has a CRC, and it isn't the frame's.
+    fn check_differs(&self, at: usize, ft: u8, bits: BitSlice<'_>) -> bool
+        requires frame { at < length (viewed self.now).frames }
+        requires small { ft ≤ 15 }
+        requires ft { ft ≡ (frame_in (said self.now) at).ft }
+        requires bits { run bits ≡ (frame_in (said self.now) at).bits }
+        requires len { bits.len ≡ bits_in self.now.profile.codec ft }
+        ensures { result ≡ is_damaged self.now at }
+    {
+        if !self.profile.crc {
+            return false;
+        }
+        if bits.len() == 0 {
+            return false;
+        }
+        self.check_sent(at) != check_over(self.profile.codec, ft, bits)
     }
 
     /// The CRC that came for frame `at` (RFC 4867, 4.4.2.1).
@@ -246,25 +287,6 @@ impl<'a> PayloadView<'a> {
             + filled_before(&self.profile, &self.toc, at)]
     }
 
-    /// The CRC of frame `at`.
-    fn check_due(&self, at: usize) -> u8
-        requires { at < length (viewed self.now).frames }
-        ensures { result ≡ check_of self.now.profile (frame_in (said self.now) at) }
-    {
-        let codec = self.profile.codec;
-        let ft = self.toc.entry(at).ft;
-        if !self.profile.sorting {
-            return check_over(codec, ft, self.run_of(at));
-        }
-        let gathered = self.gathered(at);
-        let bits = BitSlice {
-            octets: &gathered,
-            start: 0,
-            len: bits_of(codec, ft),
-        };
-        check_over(codec, ft, bits)
-    }
-
     /// The bits of frame `at` in a payload whose octets aren't sorted.
     fn run_of(&self, at: usize) -> BitSlice<'a>
         requires frame { at < length (viewed self.now).frames }
@@ -273,13 +295,15 @@ impl<'a> PayloadView<'a> {
         ensures lent { result.octets.now ≡ self.now.octets.now }
         ensures len { result.len ≡ bits_in self.now.profile.codec (frame_in (said self.now) at).ft }
     {
-        self.run_from(at, self.start_of(at))
+        self.run_from(at, self.entry(at).ft, self.start_of(at))
     }
 
-    /// The bits of frame `at`, which begins at bit `start`, in a payload whose octets aren't sorted.
-    fn run_from(&self, at: usize, start: usize) -> BitSlice<'a>
+    /// The bits of frame `at`, which has this type and begins at bit `start`, in a payload whose octets aren't sorted.
+    fn run_from(&self, at: usize, ft: u8, start: usize) -> BitSlice<'a>
         requires frame { at < length (viewed self.now).frames }
         requires plain { self.now.profile.sorting ≡ false }
+        requires small { ft ≤ 15 }
+        requires ft { ft ≡ (frame_in (said self.now) at).ft }
         requires start { start ≡ self.now.body + bits_to self.now.profile (types_of (listed self.now.toc)) at }
         ensures bits { run result ≡ (frame_in (said self.now) at).bits }
         ensures lent { result.octets.now ≡ self.now.octets.now }
@@ -288,7 +312,7 @@ impl<'a> PayloadView<'a> {
         BitSlice {
             octets: self.octets,
             start,
-            len: bits_of(self.profile.codec, self.toc.entry(at).ft),
+            len: bits_of(self.profile.codec, ft),
         }
     }
 
@@ -332,6 +356,7 @@ impl<'a> PayloadView<'a> {
 }
 
 /// The first bit behind the table and the CRCs.
+#[inline(always)]
 fn body_of(profile: &Profile, toc: &Toc<'_>) -> usize
     ensures body { result ≡ body_bit profile.now (types_of (listed toc.now)) }
     ensures short { result ≤ 6160 }
