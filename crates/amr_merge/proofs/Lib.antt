@@ -1,4 +1,5 @@
 pub mod Choice
 pub mod Octets
 pub mod Parts
+pub mod Quality
 pub mod Ranks

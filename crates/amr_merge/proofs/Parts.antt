@@ -13,7 +13,7 @@ use Rattle.amr_frame.specs.Cells.{IsCell, IsCellBy, held, frame_of}
 use Rattle.amr_frame.specs.Frames.{Frame}
 use Rattle.amr_frame.specs.Tables.{bits_in, kind_in}
 use Rattle.amr_merge.proofs.Octets.{by_bits, higher, lower, then_assoc}
-use Rattle.payload_laws.proofs.Ranks.{quality_same}
+use Rattle.amr_merge.proofs.Quality.{quality_same}
 use Rattle.spec_session.specs.Quality.{quality, rank}
 
 -- a frame or none

@@ -10,7 +10,7 @@ use Rattle.amr_frame.specs.Frames.{Frame}
 use Rattle.amr_frame.specs.Tables.{kind_in}
 use Rattle.amr_merge.specs.Members.{StandsIn}
 use Rattle.amr_merge.proofs.Choice.{pick_assoc, pick_comm, pick_same}
-use Rattle.payload_laws.proofs.Ranks.{quality_total, quality_same}
+use Rattle.amr_merge.proofs.Quality.{quality_total, quality_same}
 use Rattle.spec_session.specs.Quality.{best, better, quality}
 
 pub better_assoc : (codec : Codec) (a b c : Option Frame) → better codec (better codec a b) c ≡ better codec a (better codec b c)

@@ -1,9 +1,17 @@
+ghost use Rattle.std.specs.Cmp.{IsTotalOrder};
 ghost use Rattle.std.specs.List.{AllByRecursion};
 ghost use Rattle.std.specs.Prelude.{◌≡◌, List, None, Option};
+ghost use Rattle.std.specs.declared.cmp.Ordering.TheVariants.{Equal};
 ghost use Rattle.amr_frame.specs.Frames.{Frame};
 ghost use Rattle.amr_frame.specs.declared.codec.Codec.{Codec};
 ghost use Rattle.amr_merge.specs.Members.{StandsIn};
-ghost use Rattle.spec_session.specs.Quality.{best, better};
+ghost use Rattle.spec_session.specs.Quality.{best, better, quality};
+
+/// Quality is a total order of frames, absent ones among them, and only equal frames compare as equal.
+pub fn orders_by_quality()
+    ensures total { (codec : Codec) → IsTotalOrder (quality codec) }
+    ensures equal { (codec : Codec) (a b : Option Frame) → quality codec a b ≡ Equal → a ≡ b }
+{}
 
 /// The better of two frames is the greater in a total order whose least is the absent frame.
 pub fn better_is_the_greater()

@@ -10,7 +10,6 @@ pub mod OnePacked
 pub mod OneValue
 pub mod Places
 pub mod Ranges
-pub mod Ranks
 pub mod SameTables
 pub mod Seeing
 pub mod Shapes

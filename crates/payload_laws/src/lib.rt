@@ -4,9 +4,7 @@
 mod crc;
 mod grammar;
 mod packed;
-mod quality;
 
 pub use crc::has_one_crc;
 pub use grammar::has_one_value;
 pub use packed::{is_read_or_refused, reads_exactly_its_grammar, reads_its_grammar};
-pub use quality::orders_by_quality;

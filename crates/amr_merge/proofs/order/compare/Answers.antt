@@ -10,7 +10,7 @@ use Rattle.amr_merge.proofs.Octets.{by_bits}
 use Rattle.amr_merge.proofs.Parts.{by_head, by_parts, class_at, same_cell, same_size}
 use Rattle.amr_merge.proofs.order.compare.Goals as goal
 use Rattle.amr_merge.proofs.order.compare.Goals.{After-compare_bits, In_default, In-Equal}
-use Rattle.payload_laws.proofs.Ranks.{quality_total}
+use Rattle.amr_merge.proofs.Quality.{quality_total}
 use Rattle.spec_session.specs.Quality.{quality}
 
 -- src/order.rt:30:28
