@@ -1,122 +1,179 @@
 -- The clauses of the top call, from what its run did.
-use Rattle.std.proofs.Common.{◌≡◌, ℕ, ◌<◌, List, [], Option, Some, None, refl, sym, subst, ap, ◌∙◌, arith, inl, inr, ◌⊎◌}
-use Rattle.std.specs.Prelude.{IfSome}
+use Rattle.std.proofs.Common.{◌≡◌, ℕ, ◌<◌, List, Option, Some, refl, sym, subst, ap, ◌∙◌, arith, inl, inr, ◌⊎◌}
 use Rattle.std.specs.Io.KnownBytes.{Appends}
-use Rattle.amr_cli.proofs.Texts.{front_of, text_at, whole_of}
-use Rattle.amr_cli.proofs.Verdicts.{done_of, never_usage, read_fault_of, status_at, write_fault_of}
-use Rattle.amr_cli.specs.Noted.{IsPart, lines_of, notes_of, text_of}
-use Rattle.amr_cli.specs.Runs.{BrokeOutput, Headline, Ran}
-use Rattle.amr_cli.specs.Statuses.{EndsAs, status_for}
-use Rattle.amr_cli.specs.declared.status.Status.{Status}
+use Rattle.amr_cli.proofs.Texts.{done_text, front_of, refused_text, whole_of}
+use Rattle.amr_cli.proofs.Verdicts.{ButNotes, Done, Memory, Outcome, Read, Refused, Write, outcome, refused_calm, refused_finished, refused_not}
+use Rattle.amr_cli.specs.Jobs.{meaning_of}
+use Rattle.amr_cli.specs.Noted.{lines_of, notes_at}
+use Rattle.amr_cli.specs.Runs.{DoneButNotes, Notes, NotesPart, PutsOut, Ran, Run, StopsReading, StopsWriting, engine_of}
+use Rattle.amr_cli.specs.Statuses.{EndsAs}
+use Rattle.amr_cli.specs.declared.job.Job.{Job}
 use Rattle.amr_cli.specs.declared.status.Status.TheVariants as status
-use Rattle.amr_gateway.specs.Ends.{FaultsOf, IsWhole}
-use Rattle.amr_gateway.specs.Jobs.{recording_of}
-use Rattle.amr_gateway.specs.declared.job.RecordJob.{RecordJob}
-use Rattle.amr_gateway.specs.declared.report.RunEnd.{RunEnd}
-use Rattle.amr_gateway.specs.declared.report.RunEnd.TheVariants as run
-use Rattle.amr_io.specs.Fault.{Rose}
-use Rattle.amr_notes.specs.Written.{AppendsFront}
-use Rattle.log_engine.specs.Told.{BrokeReading}
-use Rattle.spec_record.specs.Recording.{early_of, file_of, output_of}
+use Rattle.run_report.specs.Ends.{IsFinished}
+use Rattle.run_report.specs.Lines.{notes_of}
+use Rattle.run_report.specs.Written.{AppendsFront}
+use Rattle.run_report.specs.declared.end.RunEnd.{RunEnd}
+use Rattle.run_report.specs.declared.end.RunEnd.TheVariants as end
+use Rattle.spec_run.specs.Flows.{Calm, Failed, FaultsOf}
+use Rattle.spec_run.specs.Meanings.{Leaves, Meaning, Served}
 
--- no run is told by the usage
-pub never_usage_of : (job : RecordJob) (l l' g g' m m' : Option (List ℕ)) (i i' o o' n n' : ℕ) (result : Status) → Ran job l l' g g' m m' i i' o o' n n' result → result ≡ status.Usage → ⊥
-never_usage_of job l l' g g' m m' i i' o o' n n' result r e = never_usage r.report.end n n' result r.status e
+-- what the run of a job did is what the job of the words means
+pub asked : (words : Option Job) (given job : Job) (r : Run) → words ≡ Some given → words ≡ Some job
+    → Ran (meaning_of given) r → Ran (meaning_of job) r
+asked words given job r e d ran = let same : given ≡ job = cc in subst (λ j. Ran (meaning_of j) r) same ran
 
-served : (job : RecordJob) (all : List ℕ) (l' g g' m m' : Option (List ℕ)) (i i' o o' n n' : ℕ) (result : Status) → (r : Ran job (Some all) l' g g' m m' i i' o o' n n' result) → IsWhole r.report.end → Headline job all g g' n n' result
-served job all l' g g' m m' i i' o o' n n' result r s =
-    let done = r.recorded s in
-    inr (done.output, subst (λ e. EndsAs e n n' result) done.end r.status)
+module _ (m : Meaning) (r : Run) (ran : Ran m r) where
+  what : Outcome ran.report.end r.notes r.status
+  what = outcome ran.report.end r.notes r.status ran.ended
 
-headline_by : (job : RecordJob) (all : List ℕ) (l' g g' m m' : Option (List ℕ)) (i i' o o' n n' : ℕ) (result : Status) → (r : Ran job (Some all) l' g g' m m' i i' o o' n n' result) → (end : RunEnd) → r.report.end ≡ end → (Rose i i' → ⊥) → (Rose o o' → ⊥) → Headline job all g g' n n' result
-headline_by job all l' g g' m m' i i' o o' n n' result r run.Done is ni nw = served job all l' g g' m m' i i' o o' n n' result r (subst IsWhole (sym is) tt)
-headline_by job all l' g g' m m' i i' o o' n n' result r (run.LogCut have) is ni nw = served job all l' g g' m m' i i' o o' n n' result r (subst IsWhole (sym is) tt)
-headline_by job all l' g g' m m' i i' o o' n n' result r run.ReadFault is ni nw = let f = subst (λ x. FaultsOf x i i' o o') is r.faults in absurd (ni f.0)
-headline_by job all l' g g' m m' i i' o o' n n' result r run.WriteFault is ni nw = let f = subst (λ x. FaultsOf x i i' o o') is r.faults in absurd (nw f.1)
-headline_by job all l' g g' m m' i i' o o' n n' result r run.OutOfMemory is ni nw = inl (status_at run.OutOfMemory n n' result refl (subst (λ e. EndsAs e n n' result) is r.status))
-headline_by job all l' g g' m m' i i' o o' n n' result r run.LimitReached is ni nw = served job all l' g g' m m' i i' o o' n n' result r (subst IsWhole (sym is) tt)
+  -- the faults of a run that ended so
+  faults_at : (e : RunEnd) → ran.report.end ≡ e → FaultsOf e r.input r.output
+  faults_at e is = subst (λ x. FaultsOf x r.input r.output) is ran.worked.faults
 
-pub headline_of : (job : RecordJob) (l l' g g' m m' : Option (List ℕ)) (i i' o o' n n' : ℕ) (result : Status) → Ran job l l' g g' m m' i i' o o' n n' result → (all : List ℕ) → l ≡ Some all → (Rose i i' → ⊥) → (Rose o o' → ⊥) → Headline job all g g' n n' result
-headline_of job l l' g g' m m' i i' o o' n n' result r all e = let told : Ran job (Some all) l' g g' m m' i i' o o' n n' result = subst (λ k. Ran job k l' g g' m m' i i' o o' n n' result) e r in headline_by job all l' g g' m m' i i' o o' n n' result told told.report.end refl
+  -- all was done
+  done_at : (all : List ℕ) → r.input.told ≡ Some all → ran.report.end ≡ end.Done → Served m all (engine_of r ran.report)
+  done_at all told is = ran.worked.served (subst IsFinished (sym is) tt) all told
 
-pub nothing_left_of : (job : RecordJob) (l l' g g' m m' : Option (List ℕ)) (i i' o o' n n' : ℕ) (result : Status) → Ran job l l' g g' m m' i i' o o' n n' result → result ≡ status.Done → IfSome l (λ _. l' ≡ Some [])
-nothing_left_of job l l' g g' m m' i i' o o' n n' result r d = r.nothing_left (done_of r.report.end n n' result r.status d).0
+  -- no run is told by the usage
+  pub never_usage : r.status ≡ status.Usage → ⊥
+  never_usage = not_usage what
+    where
+      not_usage : Outcome ran.report.end r.notes r.status → r.status ≡ status.Usage → ⊥
+      not_usage (Done is calm s) u = cc
+      not_usage (ButNotes is failed s) u = cc
+      not_usage (Read is s) u = cc
+      not_usage (Write is s) u = cc
+      not_usage (Memory is s) u = cc
+      not_usage (Refused refuses) u = refused_not _ _ status.Usage refuses tt u
 
--- a fault of the input
-pub read_fault_output_of : (job : RecordJob) (l l' g g' m m' : Option (List ℕ)) (i i' o o' n n' : ℕ) (result : Status) → Ran job l l' g g' m m' i i' o o' n n' result → result ≡ status.ReadFault → BrokeReading (early_of (recording_of job)) (file_of (recording_of job)) job.limit l l' g g'
-read_fault_output_of job l l' g g' m m' i i' o o' n n' result r d = r.read_fault (read_fault_of r.report.end n n' result r.status d)
+  served_out : (all : List ℕ) → Served m all (engine_of r ran.report)
+      → (r.status ≡ status.OutOfMemory) ⊎ (Appends r.output.told r.output.told' (m.out all) × EndsAs (m.end all) r.notes r.status)
+  served_out all done = inr (done.out, subst (λ x. EndsAs x r.notes r.status) done.end ran.ended)
 
-pub read_fault_only_of : (job : RecordJob) (l l' g g' m m' : Option (List ℕ)) (i i' o o' n n' : ℕ) (result : Status) → Ran job l l' g g' m m' i i' o o' n n' result → result ≡ status.ReadFault → Rose i i'
-read_fault_only_of job l l' g g' m m' i i' o o' n n' result r d = (subst (λ x. FaultsOf x i i' o o') (read_fault_of r.report.end n n' result r.status d) r.faults).0
+  puts_by : Outcome ran.report.end r.notes r.status → (all : List ℕ) → r.input.told ≡ Some all → (Failed r.input → ⊥) → (Failed r.output → ⊥)
+      → (r.status ≡ status.OutOfMemory) ⊎ (Appends r.output.told r.output.told' (m.out all) × EndsAs (m.end all) r.notes r.status)
+  puts_by (Done is calm s) all told ni no = served_out all (done_at all told is)
+  puts_by (ButNotes is failed s) all told ni no = served_out all (done_at all told is)
+  puts_by (Read is s) all told ni no = absurd (ni (faults_at end.ReadFault is).0)
+  puts_by (Write is s) all told ni no = absurd (no (faults_at end.WriteFault is).1)
+  puts_by (Memory is s) all told ni no = inl s
+  puts_by (Refused refuses) all told ni no = served_out all (ran.worked.served (refused_finished _ _ refuses) all told)
 
-read_by : (end : RunEnd) (i i' o o' : ℕ) → FaultsOf end i i' o o' → i < i' → end ≡ run.ReadFault
-read_by run.Done i i' o o' f l = absurd (omega (arith, f.0, l))
-read_by (run.LogCut have) i i' o o' f l = absurd (omega (arith, f.0, l))
-read_by run.ReadFault i i' o o' f l = refl
-read_by run.WriteFault i i' o o' f l = absurd (omega (arith, f.0, l))
-read_by run.OutOfMemory i i' o o' f l = absurd (omega (arith, f.0, l))
-read_by run.LimitReached i i' o o' f l = absurd (omega (arith, f.0, l))
+  pub puts_out : PutsOut m r
+  puts_out = record { put = puts_by what }
 
-pub read_fault_always_of : (job : RecordJob) (l l' g g' m m' : Option (List ℕ)) (i i' o o' n n' : ℕ) (result : Status) → Ran job l l' g g' m m' i i' o o' n n' result → i < i' → result ≡ status.ReadFault
-read_fault_always_of job l l' g g' m m' i i' o o' n n' result r less = status_at run.ReadFault n n' result refl (subst (λ e. EndsAs e n n' result) (read_by r.report.end i i' o o' r.faults less) r.status)
+  done_end : Outcome ran.report.end r.notes r.status → r.status ≡ status.Done → ran.report.end ≡ end.Done
+  done_end (Done is calm s) d = is
+  done_end (ButNotes is failed s) d = is
+  done_end (Read is s) d = absurd cc
+  done_end (Write is s) d = absurd cc
+  done_end (Memory is s) d = absurd cc
+  done_end (Refused refuses) d = absurd (refused_not _ _ status.Done refuses tt d)
 
--- a fault of the output
+  pub leaves_input : Leaves m r.input (r.status ≡ status.Done)
+  leaves_input = record {
+    nothing = λ reads d. ran.worked.leaves.nothing reads (done_end what d);
+    untouched = ran.worked.leaves.untouched;
+  }
 
-whole_output : (job : RecordJob) (l l' g g' m m' : Option (List ℕ)) (i i' o o' n n' : ℕ) (result : Status) → (r : Ran job l l' g g' m m' i i' o o' n n' result) → IsWhole r.report.end → IfSome l (λ all. Appends g g' (output_of (recording_of job) job.limit all))
-whole_output job None l' g g' m m' i i' o o' n n' result r s = tt
-whole_output job (Some all) l' g g' m m' i i' o o' n n' result r s = (r.recorded s).output
+  -- a fault of the input
+  stops_reading_by : Outcome ran.report.end r.notes r.status → r.status ≡ status.ReadFault → StopsReading m r
+  stops_reading_by (Done is calm s) d = absurd cc
+  stops_reading_by (ButNotes is failed s) d = absurd cc
+  stops_reading_by (Read is s) d = record { failed = (faults_at end.ReadFault is).0; broke = ran.worked.read_fault is }
+  stops_reading_by (Write is s) d = absurd cc
+  stops_reading_by (Memory is s) d = absurd cc
+  stops_reading_by (Refused refuses) d = absurd (refused_not _ _ status.ReadFault refuses tt d)
 
-pub write_fault_output_of : (job : RecordJob) (l l' g g' m m' : Option (List ℕ)) (i i' o o' n n' : ℕ) (result : Status) → Ran job l l' g g' m m' i i' o o' n n' result → result ≡ status.WriteFault → BrokeOutput job l l' g g'
-write_fault_output_of job l l' g g' m m' i i' o o' n n' result r d = elim (write_fault_of r.report.end n n' result r.status d) [
-  | inl w ↦ inl (r.write_fault w)
-  | inr w ↦ inr (whole_output job l l' g g' m m' i i' o o' n n' result r (subst IsWhole (sym w.0) tt))
-]
+  pub stops_reading : r.status ≡ status.ReadFault → StopsReading m r
+  stops_reading = stops_reading_by what
 
-pub write_fault_only_of : (job : RecordJob) (l l' g g' m m' : Option (List ℕ)) (i i' o o' n n' : ℕ) (result : Status) → Ran job l l' g g' m m' i i' o o' n n' result → result ≡ status.WriteFault → Rose o o' ⊎ Rose n n'
-write_fault_only_of job l l' g g' m m' i i' o o' n n' result r d = elim (write_fault_of r.report.end n n' result r.status d) [
-  | inl w ↦ inl (subst (λ x. FaultsOf x i i' o o') w r.faults).1
-  | inr w ↦ inr w.1
-]
+  always_read : Outcome ran.report.end r.notes r.status → r.input.faults < r.input.faults' → r.status ≡ status.ReadFault
+  always_read (Done is calm s) less = let f = (faults_at end.Done is).0 in absurd (omega (arith, f, less))
+  always_read (ButNotes is failed s) less = let f = (faults_at end.Done is).0 in absurd (omega (arith, f, less))
+  always_read (Read is s) less = s
+  always_read (Write is s) less = let f = (faults_at end.WriteFault is).0 in absurd (omega (arith, f, less))
+  always_read (Memory is s) less = let f = (faults_at end.OutOfMemory is).0 in absurd (omega (arith, f, less))
+  always_read (Refused refuses) less = let f = (refused_calm _ _ r.input r.output refuses ran.worked.faults).0 in absurd (omega (arith, f, less))
 
-write_by : (end : RunEnd) (i i' o o' : ℕ) → FaultsOf end i i' o o' → o < o' → end ≡ run.WriteFault
-write_by run.Done i i' o o' f l = absurd (omega (arith, f.1, l))
-write_by (run.LogCut have) i i' o o' f l = absurd (omega (arith, f.1, l))
-write_by run.ReadFault i i' o o' f l = absurd (omega (arith, f.1, l))
-write_by run.WriteFault i i' o o' f l = refl
-write_by run.OutOfMemory i i' o o' f l = absurd (omega (arith, f.1, l))
-write_by run.LimitReached i i' o o' f l = absurd (omega (arith, f.1, l))
+  pub read_fault_always : r.input.faults < r.input.faults' → r.status ≡ status.ReadFault
+  read_fault_always = always_read what
 
-pub write_fault_always_of : (job : RecordJob) (l l' g g' m m' : Option (List ℕ)) (i i' o o' n n' : ℕ) (result : Status) → Ran job l l' g g' m m' i i' o o' n n' result → o < o' → result ≡ status.WriteFault
-write_fault_always_of job l l' g g' m m' i i' o o' n n' result r less = status_at run.WriteFault n n' result refl (subst (λ e. EndsAs e n n' result) (write_by r.report.end i i' o o' r.faults less) r.status)
+  -- a fault of the output, or of the notes
+  but_notes : ran.report.end ≡ end.Done → Failed r.notes → DoneButNotes m r
+  but_notes is failed =
+      let f = faults_at end.Done is in
+      record {
+        failed = failed;
+        reads = f.0;
+        writes = f.1;
+        done = λ all told. let done = done_at all told is in (sym done.end ∙ is, done.out);
+      }
 
--- a fault of the notes
-pub notes_fault_of : (job : RecordJob) (l l' g g' m m' : Option (List ℕ)) (i i' o o' n n' : ℕ) (result : Status) → Ran job l l' g g' m m' i i' o o' n n' result → n < n' → result ≡ status.Done → ⊥
-notes_fault_of job l l' g g' m m' i i' o o' n n' result r less d = let same = (done_of r.report.end n n' result r.status d).1 in omega (arith, less, same)
+  stops_writing_by : Outcome ran.report.end r.notes r.status → r.status ≡ status.WriteFault → StopsWriting m r
+  stops_writing_by (Done is calm s) d = absurd cc
+  stops_writing_by (ButNotes is failed s) d = inr (but_notes is failed)
+  stops_writing_by (Read is s) d = absurd cc
+  stops_writing_by (Write is s) d = inl ((faults_at end.WriteFault is).1, ran.worked.write_fault is)
+  stops_writing_by (Memory is s) d = absurd cc
+  stops_writing_by (Refused refuses) d = absurd (refused_not _ _ status.WriteFault refuses tt d)
 
--- the notes
-same_text : (job : RecordJob) (all : List ℕ) (l' g g' m m' : Option (List ℕ)) (i i' o o' n n' : ℕ) (result : Status) → (r : Ran job (Some all) l' g g' m m' i i' o o' n n' result) → text_of r.report ≡ notes_of job all (status_for r.report.end)
-same_text job all l' g g' m m' i i' o o' n n' result r = text_at job all g g' r.report r.report.end refl r.recorded
+  pub stops_writing : r.status ≡ status.WriteFault → StopsWriting m r
+  stops_writing = stops_writing_by what
 
-notes_by : (job : RecordJob) (all : List ℕ) (l' g g' m m' : Option (List ℕ)) (i i' o o' n n' : ℕ) (result : Status) → (r : Ran job (Some all) l' g g' m m' i i' o o' n n' result) → EndsAs r.report.end n n' result → (Rose n n' → ⊥) → Appends m m' (notes_of job all result)
-notes_by job all l' g g' m m' i i' o o' n n' result r (inl e) never =
-    subst (λ t. Appends m m' t) (same_text job all l' g g' m m' i i' o o' n n' result r ∙ ap (notes_of job all) (sym e.1)) (whole_of m m' n n' (text_of r.report) never r.notes)
-notes_by job all l' g g' m m' i i' o o' n n' result r (inr e) never = absurd (never e.0)
+  always_write : Outcome ran.report.end r.notes r.status → r.output.faults < r.output.faults' → r.status ≡ status.WriteFault
+  always_write (Done is calm s) less = let f = (faults_at end.Done is).1 in absurd (omega (arith, f, less))
+  always_write (ButNotes is failed s) less = s
+  always_write (Read is s) less = let f = (faults_at end.ReadFault is).1 in absurd (omega (arith, f, less))
+  always_write (Write is s) less = s
+  always_write (Memory is s) less = let f = (faults_at end.OutOfMemory is).1 in absurd (omega (arith, f, less))
+  always_write (Refused refuses) less = let f = (refused_calm _ _ r.input r.output refuses ran.worked.faults).1 in absurd (omega (arith, f, less))
 
-pub notes_are : (job : RecordJob) (l l' g g' m m' : Option (List ℕ)) (i i' o o' n n' : ℕ) (result : Status) → Ran job l l' g g' m m' i i' o o' n n' result → (all : List ℕ) → l ≡ Some all → (Rose n n' → ⊥) → Appends m m' (notes_of job all result)
-notes_are job l l' g g' m m' i i' o o' n n' result r all e = let told : Ran job (Some all) l' g g' m m' i i' o o' n n' result = subst (λ k. Ran job k l' g g' m m' i i' o o' n n' result) e r in notes_by job all l' g g' m m' i i' o o' n n' result told told.status
+  pub write_fault_always : r.output.faults < r.output.faults' → r.status ≡ status.WriteFault
+  write_fault_always = always_write what
 
--- a part of the notes
-front_at : (job : RecordJob) (all : List ℕ) (m m' : Option (List ℕ)) (n n' : ℕ) (result : Status) (end : RunEnd) → EndsAs end n n' result → AppendsFront m m' (notes_of job all (status_for end)) → IsPart (notes_of job all result) (lines_of job all) m m' n n' result
-front_at job all m m' n n' result end (inl e) f = record { part = inl (subst (λ s. AppendsFront m m' (notes_of job all s)) (sym e.1) f) }
-front_at job all m m' n n' result run.Done (inr e) f = record { part = inr (e.1, e.0, f) }
-front_at job all m m' n n' result (run.LogCut have) (inr e) f = record { part = inl (subst (λ s. AppendsFront m m' (notes_of job all s)) (sym e.1) f) }
-front_at job all m m' n n' result run.ReadFault (inr e) f = record { part = inl (subst (λ s. AppendsFront m m' (notes_of job all s)) (sym e.1) f) }
-front_at job all m m' n n' result run.WriteFault (inr e) f = record { part = inl (subst (λ s. AppendsFront m m' (notes_of job all s)) (sym e.1) f) }
-front_at job all m m' n n' result run.OutOfMemory (inr e) f = record { part = inl (subst (λ s. AppendsFront m m' (notes_of job all s)) (sym e.1) f) }
-front_at job all m m' n n' result run.LimitReached (inr e) f = record { part = inl (subst (λ s. AppendsFront m m' (notes_of job all s)) (sym e.1) f) }
+  -- a fault of the notes
+  never_done : Outcome ran.report.end r.notes r.status → r.notes.faults < r.notes.faults' → r.status ≡ status.Done → ⊥
+  never_done (Done is calm s) less d = omega (arith, calm, less)
+  never_done (ButNotes is failed s) less d = cc
+  never_done (Read is s) less d = cc
+  never_done (Write is s) less d = cc
+  never_done (Memory is s) less d = cc
+  never_done (Refused refuses) less d = refused_not _ _ status.Done refuses tt d
 
-pub notes_part_of : (job : RecordJob) (l l' g g' m m' : Option (List ℕ)) (i i' o o' n n' : ℕ) (result : Status) → Ran job l l' g g' m m' i i' o o' n n' result → (all : List ℕ) → l ≡ Some all → IsPart (notes_of job all result) (lines_of job all) m m' n n' result
-notes_part_of job l l' g g' m m' i i' o o' n n' result r all e =
-    let told : Ran job (Some all) l' g g' m m' i i' o o' n n' result = subst (λ k. Ran job k l' g g' m m' i i' o o' n n' result) e r in
-    front_at job all m m' n n' result told.report.end told.status
-    (subst (λ t. AppendsFront m m' t) (same_text job all l' g g' m m' i i' o o' n n' result told) (front_of m m' n n' (text_of told.report) told.notes))
+  pub notes_fault : r.notes.faults < r.notes.faults' → r.status ≡ status.Done → ⊥
+  notes_fault = never_done what
+
+  -- the notes are those of the status, but where a fault of theirs changed it
+  text : List ℕ
+  text = notes_of m.lines ran.report
+
+  text_by : Outcome ran.report.end r.notes r.status → (all : List ℕ) → r.input.told ≡ Some all
+      → (text ≡ notes_at m all r.status) ⊎ ((r.status ≡ status.WriteFault) × DoneButNotes m r × (text ≡ lines_of m all))
+  text_by (Done is calm s) all told = inl (done_text m all _ _ is (done_at all told is).counts ∙ ap (notes_at m all) (sym s))
+  text_by (ButNotes is failed s) all told = inr (s, but_notes is failed, done_text m all _ _ is (done_at all told is).counts)
+  text_by (Read is s) all told = inl (ap (λ x. notes_of m.lines (record ran.report { end = x })) is ∙ ap (notes_at m all) (sym s))
+  text_by (Write is s) all told = inl (ap (λ x. notes_of m.lines (record ran.report { end = x })) is ∙ ap (notes_at m all) (sym s))
+  text_by (Memory is s) all told = inl (ap (λ x. notes_of m.lines (record ran.report { end = x })) is ∙ ap (notes_at m all) (sym s))
+  text_by (Refused refuses) all told =
+      let done = ran.worked.served (refused_finished _ _ refuses) all told in
+      inl (refused_text m all _ _ _ refuses done.end done.counts)
+
+  whole_by : (all : List ℕ) → (Failed r.notes → ⊥)
+      → (text ≡ notes_at m all r.status) ⊎ ((r.status ≡ status.WriteFault) × DoneButNotes m r × (text ≡ lines_of m all))
+      → Appends r.notes.told r.notes.told' (notes_at m all r.status)
+  whole_by all never (inl is) = subst (Appends r.notes.told r.notes.told') is (whole_of r.notes text never ran.noted)
+  whole_by all never (inr but) = absurd (never but.1.failed)
+
+  pub whole_notes : Notes m r
+  whole_notes = record { whole = λ all told never. whole_by all never (text_by what all told) }
+
+  part_by : (all : List ℕ)
+      → (text ≡ notes_at m all r.status) ⊎ ((r.status ≡ status.WriteFault) × DoneButNotes m r × (text ≡ lines_of m all))
+      → AppendsFront r.notes.told r.notes.told' (notes_at m all r.status)
+      ⊎ ((r.status ≡ status.WriteFault) × DoneButNotes m r × AppendsFront r.notes.told r.notes.told' (lines_of m all))
+  part_by all (inl is) = inl (subst (AppendsFront r.notes.told r.notes.told') is (front_of r.notes text ran.noted))
+  part_by all (inr but) = inr (but.0, but.1, subst (AppendsFront r.notes.told r.notes.told') but.2 (front_of r.notes text ran.noted))
+
+  pub notes_part : NotesPart m r
+  notes_part = record { part = λ all told. part_by all (text_by what all told) }

@@ -1,90 +1,64 @@
--- Which end of a run a status tells.
-use Rattle.std.proofs.Common.{◌≡◌, ℕ, refl, sym, ◌∙◌, inl, inr, ◌⊎◌}
-use Rattle.amr_cli.specs.Statuses.{EndsAs, blamed_for, status_for}
+-- What came of a run, by its end, its notes and its status.
+use Rattle.std.proofs.Common.{◌≡◌, ℕ, ap, sym, subst, ◌∙◌, refl, inl, inr, ◌⊎◌}
+use Rattle.amr_cli.specs.Statuses.{EndsAs, but_notes, status_for}
 use Rattle.amr_cli.specs.declared.status.Status.{Status}
-use Rattle.amr_cli.specs.declared.status.Status.TheVariants.{Done, Usage, ReadFault, WriteFault}
-use Rattle.amr_gateway.specs.declared.report.RunEnd.{RunEnd}
-use Rattle.amr_gateway.specs.declared.report.RunEnd.TheVariants as run
-use Rattle.amr_io.specs.Fault.{Rose}
+use Rattle.amr_cli.specs.declared.status.Status.TheVariants as status
+use Rattle.run_report.specs.Ends.{IsFinished}
+use Rattle.run_report.specs.declared.end.RunEnd.{RunEnd}
+use Rattle.run_report.specs.declared.end.RunEnd.TheVariants as end
+use Rattle.spec_run.specs.Flows.{Calm, Failed, FaultsOf, Flow}
 
-not_usage : (end : RunEnd) → (status_for end ≡ Usage → ⊥) × (blamed_for end ≡ Usage → ⊥)
-not_usage run.Done = (λ e. absurd cc, λ e. absurd cc)
-not_usage (run.LogCut have) = (λ e. absurd cc, λ e. absurd cc)
-not_usage run.ReadFault = (λ e. absurd cc, λ e. absurd cc)
-not_usage run.WriteFault = (λ e. absurd cc, λ e. absurd cc)
-not_usage run.OutOfMemory = (λ e. absurd cc, λ e. absurd cc)
-not_usage run.LimitReached = (λ e. absurd cc, λ e. absurd cc)
+-- the input was worked off, but isn't what it should be, and a status of its own tells it
+pub data Refuses : RunEnd → Status → Type 0 where
+  Input : (have : ℕ) → Refuses (end.LogCut have) status.InputRefused
+  Limit : Refuses end.LimitReached status.LimitReached
 
--- no end is told by the usage
-pub never_usage : (end : RunEnd) (n n' : ℕ) (result : Status) → EndsAs end n n' result → result ≡ Usage → ⊥
-never_usage end n n' result (inl e) u = (not_usage end).0 (sym e.1 ∙ u)
-never_usage end n n' result (inr e) u = (not_usage end).1 (sym e.1 ∙ u)
+-- what came of a run
+pub data Outcome (e : RunEnd) (notes : Flow) (s : Status) : Type 0 where
+  Done : e ≡ end.Done → Calm notes → s ≡ status.Done → Outcome e notes s
+  ButNotes : e ≡ end.Done → Failed notes → s ≡ status.WriteFault → Outcome e notes s
+  Read : e ≡ end.ReadFault → s ≡ status.ReadFault → Outcome e notes s
+  Write : e ≡ end.WriteFault → s ≡ status.WriteFault → Outcome e notes s
+  Memory : e ≡ end.OutOfMemory → s ≡ status.OutOfMemory → Outcome e notes s
+  Refused : Refuses e s → Outcome e notes s
 
-done_by : (end : RunEnd) → status_for end ≡ Done → end ≡ run.Done
-done_by run.Done e = refl
-done_by (run.LogCut have) e = absurd cc
-done_by run.ReadFault e = absurd cc
-done_by run.WriteFault e = absurd cc
-done_by run.OutOfMemory e = absurd cc
-done_by run.LimitReached e = absurd cc
+-- the status, whatever the notes did, where those change nothing of it
+whatever : (e : RunEnd) (notes : Flow) (s t : Status) → status_for e ≡ t → but_notes t ≡ t → EndsAs e notes s → s ≡ t
+whatever e notes s t is same (inl ended) = ended.1 ∙ is
+whatever e notes s t is same (inr ended) = ended.1 ∙ ap but_notes is ∙ same
 
-never_done : (end : RunEnd) → blamed_for end ≡ Done → ⊥
-never_done run.Done e = cc
-never_done (run.LogCut have) e = cc
-never_done run.ReadFault e = cc
-never_done run.WriteFault e = cc
-never_done run.OutOfMemory e = cc
-never_done run.LimitReached e = cc
+pub outcome : (e : RunEnd) (notes : Flow) (s : Status) → EndsAs e notes s → Outcome e notes s
+outcome end.Done notes s (inl ended) = Done refl ended.0 ended.1
+outcome end.Done notes s (inr ended) = ButNotes refl ended.0 ended.1
+outcome end.ReadFault notes s ended = Read refl (whatever end.ReadFault notes s status.ReadFault refl refl ended)
+outcome end.WriteFault notes s ended = Write refl (whatever end.WriteFault notes s status.WriteFault refl refl ended)
+outcome end.OutOfMemory notes s ended = Memory refl (whatever end.OutOfMemory notes s status.OutOfMemory refl refl ended)
+outcome (end.LogCut have) notes s ended =
+    let is = whatever (end.LogCut have) notes s status.InputRefused refl refl ended in
+    Refused (subst (Refuses (end.LogCut have)) (sym is) (Input have))
+outcome end.LimitReached notes s ended =
+    let is = whatever end.LimitReached notes s status.LimitReached refl refl ended in
+    Refused (subst (Refuses end.LimitReached) (sym is) Limit)
 
-pub done_of : (end : RunEnd) (n n' : ℕ) (result : Status) → EndsAs end n n' result → result ≡ Done → (end ≡ run.Done) × (n' ≡ n)
-done_of end n n' result (inl e) d = (done_by end (sym e.1 ∙ d), e.0)
-done_of end n n' result (inr e) d = absurd (never_done end (sym e.1 ∙ d))
+-- an input that was refused was worked off without a fault
+pub refused_finished : (e : RunEnd) (s : Status) → Refuses e s → IsFinished e
+refused_finished (end.LogCut have) status.InputRefused (Input have) = tt
+refused_finished end.LimitReached status.LimitReached Limit = tt
 
-read_fault_by : (end : RunEnd) → status_for end ≡ ReadFault → end ≡ run.ReadFault
-read_fault_by run.Done e = absurd cc
-read_fault_by (run.LogCut have) e = absurd cc
-read_fault_by run.ReadFault e = refl
-read_fault_by run.WriteFault e = absurd cc
-read_fault_by run.OutOfMemory e = absurd cc
-read_fault_by run.LimitReached e = absurd cc
+pub refused_calm : (e : RunEnd) (s : Status) (i o : Flow) → Refuses e s → FaultsOf e i o → Calm i × Calm o
+refused_calm (end.LogCut have) status.InputRefused i o (Input have) f = f
+refused_calm end.LimitReached status.LimitReached i o Limit f = f
 
-blamed_read_by : (end : RunEnd) → blamed_for end ≡ ReadFault → end ≡ run.ReadFault
-blamed_read_by run.Done e = absurd cc
-blamed_read_by (run.LogCut have) e = absurd cc
-blamed_read_by run.ReadFault e = refl
-blamed_read_by run.WriteFault e = absurd cc
-blamed_read_by run.OutOfMemory e = absurd cc
-blamed_read_by run.LimitReached e = absurd cc
+-- a status that doesn't tell a refused input
+abbrev pub Plain : Status → Type 0
+Plain status.InputRefused = ⊥
+Plain status.LimitReached = ⊥
+Plain status.Done = Unit {0}
+Plain status.Usage = Unit {0}
+Plain status.ReadFault = Unit {0}
+Plain status.WriteFault = Unit {0}
+Plain status.OutOfMemory = Unit {0}
 
-pub read_fault_of : (end : RunEnd) (n n' : ℕ) (result : Status) → EndsAs end n n' result → result ≡ ReadFault → end ≡ run.ReadFault
-read_fault_of end n n' result (inl e) d = read_fault_by end (sym e.1 ∙ d)
-read_fault_of end n n' result (inr e) d = blamed_read_by end (sym e.1 ∙ d)
-
-write_fault_by : (end : RunEnd) → status_for end ≡ WriteFault → end ≡ run.WriteFault
-write_fault_by run.Done e = absurd cc
-write_fault_by (run.LogCut have) e = absurd cc
-write_fault_by run.ReadFault e = absurd cc
-write_fault_by run.WriteFault e = refl
-write_fault_by run.OutOfMemory e = absurd cc
-write_fault_by run.LimitReached e = absurd cc
-
-blamed_write_by : (end : RunEnd) → blamed_for end ≡ WriteFault → (end ≡ run.WriteFault) ⊎ (end ≡ run.Done)
-blamed_write_by run.Done e = inr refl
-blamed_write_by (run.LogCut have) e = absurd cc
-blamed_write_by run.ReadFault e = absurd cc
-blamed_write_by run.WriteFault e = inl refl
-blamed_write_by run.OutOfMemory e = absurd cc
-blamed_write_by run.LimitReached e = absurd cc
-
--- a write fault is the output's, or the notes' where all else was done
-pub write_fault_of : (end : RunEnd) (n n' : ℕ) (result : Status) → EndsAs end n n' result → result ≡ WriteFault → (end ≡ run.WriteFault) ⊎ ((end ≡ run.Done) × Rose n n')
-write_fault_of end n n' result (inl e) d = inl (write_fault_by end (sym e.1 ∙ d))
-write_fault_of end n n' result (inr e) d = elim (blamed_write_by end (sym e.1 ∙ d)) [
-  | inl w ↦ inl w
-  | inr w ↦ inr (w, e.0)
-]
-
--- the status of an end that isn't done is that of the end
-pub status_at : (end : RunEnd) (n n' : ℕ) (result : Status) → blamed_for end ≡ status_for end → EndsAs end n n' result → result ≡ status_for end
-status_at end n n' result same (inl e) = e.1
-status_at end n n' result same (inr e) = e.1 ∙ same
+pub refused_not : (e : RunEnd) (s t : Status) → Refuses e s → Plain t → s ≡ t → ⊥
+refused_not (end.LogCut have) status.InputRefused t (Input have) plain is = subst Plain (sym is) plain
+refused_not end.LimitReached status.LimitReached t Limit plain is = subst Plain (sym is) plain

@@ -1,9 +1,9 @@
--- The job of the words: ours.
-use Rattle.std.specs.Prelude.{ℕ, false, List, Option, Some, None}
+-- The job of the words, and what it means: ours.
+use Rattle.std.specs.Prelude.{◌≡◌, ℕ, false, List, Option, Some, None}
 use Rattle.amr_cli.specs.declared.job.Job.{Job}
 use Rattle.amr_cli.specs.declared.job.Job.TheVariants.{RecordLog}
 use Rattle.amr_frame.specs.declared.profile.Profile.{Profile}
-use Rattle.amr_gateway.specs.Jobs.{IsServed as IsRecordJob}
+use Rattle.amr_gateway.specs.Jobs.{IsServed as IsRecordJob, recording_meaning}
 use Rattle.amr_gateway.specs.declared.job.RecordJob.{RecordJob}
 use Rattle.amr_playout.specs.Plans.{plan_fault}
 use Rattle.amr_playout.specs.declared.plan.Plan.{Plan}
@@ -12,6 +12,7 @@ use Rattle.command_words.specs.Jobs.{command_of}
 use Rattle.command_words.specs.declared.command.Command.{Command}
 use Rattle.command_words.specs.declared.command.Command.TheVariants.{Record}
 use Rattle.command_words.specs.declared.command.RecordWords.{RecordWords}
+use Rattle.spec_run.specs.Meanings.{Meaning}
 
 -- the format that is recorded: bandwidth-efficient
 abbrev pub format_of : RecordWords → Profile
@@ -34,7 +35,8 @@ unless_faulty None job = Some (RecordLog job)
 unless_faulty (Some why) job = None
 
 abbrev pub record_job : RecordWords → Option Job
-record_job w = unless_faulty (plan_fault (plan_of w)) (record { plan = plan_of w; pt = w.pt; limit = w.limit })
+record_job w =
+    unless_faulty (plan_fault (plan_of w)) (record { plan = plan_of w; pt = w.pt; limit = w.limit })
 
 abbrev pub job_by : Option Command → Option Job
 job_by None = None
@@ -47,3 +49,11 @@ job_of words = job_by (command_of words)
 -- a job is one that its engine serves
 abbrev pub IsServed : Job → Type 0
 IsServed (RecordLog job) = IsRecordJob job
+
+-- what a job means
+abbrev pub meaning_of : Job → Meaning
+meaning_of (RecordLog job) = recording_meaning job
+
+-- this holds of what the job of the words means, if they give one
+abbrev pub Asked : List (List ℕ) → (Meaning → Type 0) → Type 0
+Asked words P = (job : Job) → job_of words ≡ Some job → P (meaning_of job)

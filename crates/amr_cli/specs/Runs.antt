@@ -1,40 +1,79 @@
--- A run of the program over what it is lent: ours.
-use Rattle.std.specs.Prelude.{◌≡◌, ◌⊎◌, ℕ, List, [], Option, Some, IfSome}
+-- A run of the program over what it is lent, and what is promised of it: ours.
+use Rattle.std.specs.Prelude.{◌≡◌, ◌⊎◌, ⊥, ℕ, List, Some}
 use Rattle.std.specs.Io.KnownBytes.{Appends}
-use Rattle.amr_cli.specs.Noted.{Noted, text_of}
+use Rattle.amr_cli.specs.Noted.{Noted, lines_of, notes_at}
 use Rattle.amr_cli.specs.Statuses.{EndsAs}
 use Rattle.amr_cli.specs.declared.status.Status.{Status}
 use Rattle.amr_cli.specs.declared.status.Status.TheVariants as status
-use Rattle.amr_gateway.specs.Ends.{FaultsOf, IsWhole, run_end}
-use Rattle.amr_gateway.specs.Jobs.{recording_of}
-use Rattle.amr_gateway.specs.Recorded.{Recorded}
-use Rattle.amr_gateway.specs.declared.job.RecordJob.{RecordJob}
-use Rattle.amr_gateway.specs.declared.report.RunEnd.TheVariants as run
-use Rattle.amr_gateway.specs.declared.report.RunReport.{RunReport}
-use Rattle.log_engine.specs.Told.{BrokeReading, BrokeWriting}
-use Rattle.spec_record.specs.Recording.{early_of, end_of, file_of, output_of}
+use Rattle.amr_io.specs.declared.sink.Sink as sink
+use Rattle.amr_io.specs.declared.source.Source as source
+use Rattle.run_report.specs.Lines.{notes_of}
+use Rattle.run_report.specs.Written.{AppendsFront}
+use Rattle.run_report.specs.declared.end.RunEnd.TheVariants as end
+use Rattle.run_report.specs.declared.report.RunReport.{RunReport}
+use Rattle.spec_run.specs.Flows.{Calm, Failed, Flow, read_from, written_to}
+use Rattle.spec_run.specs.Meanings.{BrokeReading, BrokeWriting, Meaning, Work, Works}
 
--- what a run of `record` did to what it was lent: the octets left in the input and those got by the output and by the
--- notes, and their counts of faults, before and after
-pub record Ran (job : RecordJob) (left left' got got' noted noted' : Option (List ℕ)) (i i' o o' n n' : ℕ) (result : Status) : Type 0 where
+-- what a run of the program did
+pub record Run : Type 0 where
+  pub input : Flow
+  pub output : Flow
+  pub notes : Flow
+  pub status : Status
+
+abbrev pub run_of : {A B C : Type 0} → source.Ghosts A → sink.Ghosts B → sink.Ghosts C
+    → A → A → B → B → C → C → Status → Run
+run_of i o n input input' output output' notes notes' status = record {
+  input = read_from i input input';
+  output = written_to o output output';
+  notes = written_to n notes notes';
+  status = status;
+}
+
+-- what its engine did
+abbrev pub engine_of : Run → RunReport → Work
+engine_of r report = record { input = r.input; output = r.output; report = report }
+
+-- the whole of a run: its engine did what the job means, the notes tell its report, and the status is that of its end
+pub record Ran (m : Meaning) (r : Run) : Type 0 where
   pub report : RunReport
-  pub recorded : IsWhole report.end → IfSome left (λ all. Recorded job all got got' report)
-  pub nothing_left : report.end ≡ run.Done → IfSome left (λ _. left' ≡ Some [])
-  pub read_fault : report.end ≡ run.ReadFault → BrokeReading (early_of (recording_of job)) (file_of (recording_of job)) job.limit left left' got got'
-  pub write_fault : report.end ≡ run.WriteFault → BrokeWriting (early_of (recording_of job)) (file_of (recording_of job)) job.limit left left' got got'
-  pub faults : FaultsOf report.end i i' o o'
-  pub notes : Noted noted noted' n n' (text_of report)
-  pub status : EndsAs report.end n n' result
+  pub worked : Works m (engine_of r report)
+  pub noted : Noted r.notes (notes_of m.lines report)
+  pub ended : EndsAs report.end r.notes r.status
 
--- where the input is told and neither the input nor the output had a fault: want of memory, or just the file of the input
--- and the status of its end; a fault of the notes makes a write fault of what were done
-abbrev pub Headline : RecordJob → List ℕ → Option (List ℕ) → Option (List ℕ) → ℕ → ℕ → Status → Type 0
-Headline job input got got' n n' result =
-    (result ≡ status.OutOfMemory)
-    ⊎ (Appends got got' (output_of (recording_of job) job.limit input) × EndsAs (run_end (end_of job.limit input)) n n' result)
+-- where the input is told and neither it nor the output failed: want of memory, or just what the input means and the
+-- status of its end
+pub record PutsOut (m : Meaning) (r : Run) : Type 0 where
+  pub put : (all : List ℕ) → r.input.told ≡ Some all
+      → (Failed r.input → ⊥) → (Failed r.output → ⊥)
+      → (r.status ≡ status.OutOfMemory)
+      ⊎ (Appends r.output.told r.output.told' (m.out all) × EndsAs (m.end all) r.notes r.status)
 
--- at a write fault a write to the output failed, or one to the notes once all of the output was written
-abbrev pub BrokeOutput : RecordJob → Option (List ℕ) → Option (List ℕ) → Option (List ℕ) → Option (List ℕ) → Type 0
-BrokeOutput job left left' got got' =
-    BrokeWriting (early_of (recording_of job)) (file_of (recording_of job)) job.limit left left' got got'
-    ⊎ IfSome left (λ all. Appends got got' (output_of (recording_of job) job.limit all))
+-- a read failed, and what was put out is what is early of the octets read
+pub record StopsReading (m : Meaning) (r : Run) : Type 0 where
+  pub failed : Failed r.input
+  pub broke : BrokeReading m r.input r.output
+
+-- all but the notes was done: where the input is told, it means that all is done, and just what it means was put out
+pub record DoneButNotes (m : Meaning) (r : Run) : Type 0 where
+  pub failed : Failed r.notes
+  pub reads : Calm r.input
+  pub writes : Calm r.output
+  pub done : (all : List ℕ) → r.input.told ≡ Some all
+      → (m.end all ≡ end.Done) × Appends r.output.told r.output.told' (m.out all)
+
+-- a write to the output failed, or one to the notes where all else was done
+abbrev pub StopsWriting : Meaning → Run → Type 0
+StopsWriting m r = (Failed r.output × BrokeWriting m r.input r.output) ⊎ DoneButNotes m r
+
+-- the notes, where they didn't fail
+pub record Notes (m : Meaning) (r : Run) : Type 0 where
+  pub whole : (all : List ℕ) → r.input.told ≡ Some all → (Failed r.notes → ⊥)
+      → Appends r.notes.told r.notes.told' (notes_at m all r.status)
+
+-- whether they failed or not: a front of the notes; of the lines alone where only the notes made a write fault of it
+pub record NotesPart (m : Meaning) (r : Run) : Type 0 where
+  pub part : (all : List ℕ) → r.input.told ≡ Some all
+      → AppendsFront r.notes.told r.notes.told' (notes_at m all r.status)
+      ⊎ ((r.status ≡ status.WriteFault) × DoneButNotes m r
+      × AppendsFront r.notes.told r.notes.told' (lines_of m all))

@@ -1,6 +1,7 @@
 //! Records packet logs of AMR and AMR-WB speech as storage files.
 #![tactic(auto)]
 
+mod engine;
 #[cfg(test)]
 mod fault_tests;
 mod job;
@@ -11,10 +12,10 @@ mod test_logs;
 #[cfg(test)]
 mod tests;
 
-use crate::run::run_gateway;
+use crate::run::{note, note_usage, run_gateway};
 use crate::status::{Status, number_of};
 use amr_io::{ReadSource, Sink, WriteSink};
-use amr_notes::{LastLine, write_last_line};
+use run_report::{CountLines, Counts, RunEnd, RunReport};
 use std::process::ExitCode;
 use std::{env, io};
 
@@ -30,12 +31,16 @@ fn words_of(rt: &HostRuntime) -> io::Result<Vec<String>> {
 /// The status where the words can't be had, with its line in the notes: there was no memory for them, or one isn't UTF-8 and
 /// so no word of a job.
 fn without_words<E: Sink>(error: &io::Error, notes: &mut E) -> Status {
-    let (status, line) = match error.kind() {
-        io::ErrorKind::OutOfMemory => (Status::OutOfMemory, LastLine::OutOfMemory),
-        _ => (Status::Usage, LastLine::Usage),
-    };
-    let _written = write_last_line(notes, line);
-    status
+    match error.kind() {
+        io::ErrorKind::OutOfMemory => {
+            let report = RunReport {
+                end: RunEnd::OutOfMemory,
+                counts: Counts::none(),
+            };
+            note(notes, CountLines::None, &report)
+        }
+        _ => note_usage(notes),
+    }
 }
 
 fn main(rt: HostRuntime) -> ExitCode {

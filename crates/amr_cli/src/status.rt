@@ -1,7 +1,7 @@
 ghost use Rattle.std.specs.Prelude.{◌≡◌};
-ghost use Rattle.amr_cli.specs.Statuses.{blamed_for, number_for, status_for};
+ghost use Rattle.amr_cli.specs.Statuses.{but_notes, number_for, status_for};
 
-use amr_gateway::RunEnd;
+use run_report::RunEnd;
 
 /// How the program ends.
 #[derive(Clone, Copy, Debug, PartialEq, Eq)]
@@ -38,7 +38,7 @@ pub fn status_of(end: RunEnd) -> Status
 
 /// The status of a run that ended so and whose notes failed.
 pub fn blamed(end: RunEnd) -> Status
-    ensures { result ≡ blamed_for end }
+    ensures { result ≡ but_notes (status_for end) }
 {
     match end {
         RunEnd::Done => Status::WriteFault,

@@ -1,7 +1,6 @@
 pub mod Bounds
 pub mod Carried
-pub mod Ending
-pub mod Heard
+pub mod HeardRecords
 pub mod Offered
 pub mod Passing
 pub mod Plans

@@ -1,8 +1,8 @@
 -- Which test of a recording a record meets.
 use Rattle.std.proofs.Common.{◌≡◌, ℕ, true, false, List, [], ◌∷◌, length, refl, Some, None, Ok, Err}
-use Rattle.amr_gateway.specs.Hearing.{IsPacket, IsTold, Meets}
-use Rattle.amr_gateway.specs.declared.tally.Heard.{Heard}
-use Rattle.amr_gateway.specs.declared.tally.Heard.TheVariants.{Null, NoRtp, OtherType, NoPayload, NoPlace, Accepted}
+use Rattle.amr_gateway.specs.Hearing.{IsOfSession, IsTold, Meets}
+use Rattle.amr_gateway.specs.declared.heard.Heard.{Heard}
+use Rattle.amr_gateway.specs.declared.heard.Heard.TheVariants.{Null, NoRtp, OtherType, NoPayload, NoPlace, Accepted}
 use Rattle.spec_packet.specs.Rtp.{RtpPacket}
 use Rattle.spec_packet.specs.RtpReading.{rtp_of}
 use Rattle.spec_packet.specs.declared.refusal.RtpRefusal.{RtpRefusal}
@@ -66,7 +66,7 @@ packet_met r octets rtp v n e a p read = record {
 }
 
 -- a packet is told as one, accepted or not
-pub told_packet : (r : Recording) (octets : List ℕ) (heard : Heard) → IsPacket heard → Meets r octets false false false false 1 → IsTold r octets heard
+pub told_packet : (r : Recording) (octets : List ℕ) (heard : Heard) → IsOfSession heard → Meets r octets false false false false 1 → IsTold r octets heard
 told_packet r octets Null is m = absurd is
 told_packet r octets NoRtp is m = absurd is
 told_packet r octets OtherType is m = absurd is

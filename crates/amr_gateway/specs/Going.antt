@@ -1,20 +1,21 @@
 -- What a recorder holds while records come: ours.
-use Rattle.std.specs.Prelude.{◌≡◌, ℕ, ◌+◌, ◌*◌, ◌^◌, ◌≤◌, false, List, [], Option, Some, None}
+use Rattle.std.specs.Prelude.{◌≡◌, ℕ, ◌+◌, ◌*◌, ◌^◌, ◌≤◌, ◌<◌, false, List, [], Option, Some, None}
 use Rattle.amr_gateway.specs.Jobs.{recording_of}
 use Rattle.amr_gateway.specs.Tallies.{IsSmall, Tallied}
 use Rattle.amr_gateway.specs.declared.job.RecordJob.{RecordJob}
-use Rattle.amr_gateway.specs.declared.tally.Tally.{Tally}
 use Rattle.amr_playout.specs.Receiver.{StandsFor, View}
 use Rattle.amr_playout.specs.declared.session.Begun.{Begun}
+use Rattle.run_report.specs.Lines.{no_counts}
+use Rattle.run_report.specs.declared.counts.Counts.{Counts}
 use Rattle.spec_session.specs.Packets.{packets_of}
 
 -- it took these records
-pub record Stands (job : RecordJob) (v : View) (t : Tally) (records : List (List ℕ)) : Type 0 where
+pub record Stands (job : RecordJob) (v : View) (c : Counts) (records : List (List ℕ)) : Type 0 where
   pub heard : StandsFor v (packets_of job.plan.profile job.pt records)
-  pub tallied : Tallied (recording_of job) t records
+  pub tallied : Tallied (recording_of job) c records
 
--- n records take a session no further than this: a record takes the horizon no further than the reach, and no more blocks
--- went out than the horizon has passed
+-- n records take a session no further than this: a record takes the horizon no further than the
+-- reach, and no more blocks went out than the horizon has passed
 abbrev pub IsWithin : ℕ → Option Begun → ℕ → Type 0
 IsWithin n None blocks = blocks ≡ 0
 IsWithin n (Some s) blocks = (blocks ≤ s.horizon) × (s.horizon ≤ 2 ^ 24 + 4096 + n * 45000)
@@ -25,16 +26,23 @@ pub record IsBounded (n : ℕ) (v : View) : Type 0 where
   pub copies : v.counts.copies ≤ n * 384
   pub within : IsWithin n v.session v.counts.blocks
 
+-- a receiver that takes a record more: no call failed, and it heard fewer than 2^40 records
+pub record TakesRecord (v : View) : Type 0 where
+  pub unspent : v.spent ≡ false
+  pub records : ℕ
+  pub few : records < 2 ^ 40
+  pub bounded : IsBounded records v
+
 -- it took no record
-pub record IsNew (v : View) (t : Tally) : Type 0 where
+pub record IsNew (v : View) (c : Counts) : Type 0 where
   pub heard : StandsFor v []
   pub session : v.session ≡ None
   pub counts : v.counts ≡ record { late = 0; copies = 0; blocks = 0 }
-  pub tally : t ≡ record { packets = 0; null = 0; rtp = 0; other_type = 0; payload = 0; place = 0 }
+  pub tally : c ≡ no_counts
 
 -- it takes records
-pub record IsGoing (v : View) (t : Tally) : Type 0 where
+pub record IsGoing (v : View) (c : Counts) : Type 0 where
   pub unspent : v.spent ≡ false
-  pub small : IsSmall t
-  pub few : t.packets ≤ 2 ^ 40
-  pub bounded : IsBounded t.packets v
+  pub small : IsSmall c
+  pub few : c.packets ≤ 2 ^ 40
+  pub bounded : IsBounded c.packets v

@@ -2,26 +2,35 @@
 use Rattle.std.specs.Prelude.{⊤, ◌≡◌, ℕ, ◌+◌, ◌++◌, Bool, true, false, List, [], ◌∷◌, length, Option, flat_map}
 use Rattle.std.specs.Io.KnownBytes.{Appends}
 use Rattle.amr_frame.specs.Frames.{Frame}
-use Rattle.amr_gateway.specs.declared.tally.Heard.{Heard}
-use Rattle.amr_gateway.specs.declared.tally.Heard.TheVariants.{Null, NoRtp, OtherType, NoPayload, NoPlace, Accepted}
+use Rattle.amr_gateway.specs.declared.heard.Heard.{Heard}
+use Rattle.amr_gateway.specs.declared.heard.Heard.TheVariants.{Null, NoRtp, OtherType, NoPayload, NoPlace, Accepted}
 use Rattle.amr_gateway.specs.Going.{IsBounded}
+use Rattle.amr_gateway.specs.Jobs.{recording_of}
 use Rattle.amr_gateway.specs.declared.job.RecordJob.{RecordJob}
 use Rattle.amr_playout.specs.Plans.{rules_in}
 use Rattle.amr_playout.specs.Receiver.{StandsFor, View, sent}
 use Rattle.spec_record.specs.RecordCounts.{is_no_payload, is_no_rtp, is_null, is_other_type}
 use Rattle.spec_record.specs.Recording.{Recording}
-use Rattle.spec_session.specs.Packets.{packets_of}
+use Rattle.spec_session.specs.Counts.{block_count}
+use Rattle.spec_session.specs.Packets.{Packet, packets_of}
+use Rattle.spec_session.specs.Release.{released}
 use Rattle.spec_session.specs.Session.{accepted}
 use Rattle.spec_store.specs.StorageFile.{block_text}
 
 -- a sink got the octets of the blocks that a longer list has more
-abbrev pub Gained : Option (List ℕ) → Option (List ℕ) → List (List Frame) → List (List Frame) → Type 0
-Gained got got' less more = (blocks : List (List Frame)) × Appends got got' (flat_map block_text blocks) × (more ≡ less ++ blocks)
+pub record Gained (got got' : Option (List ℕ)) (less more : List (List Frame)) : Type 0 where
+  pub blocks : List (List Frame)
+  pub octets : Appends got got' (flat_map block_text blocks)
+  pub more_by : more ≡ less ++ blocks
 
 -- a sink got a front of the octets of the blocks that a longer list has more
-abbrev pub GainedPart : Option (List ℕ) → Option (List ℕ) → List (List Frame) → List (List Frame) → Type 0
-GainedPart got got' less more = (front : List ℕ) × (rest : List ℕ) × (blocks : List (List Frame)) × Appends got got' front
-    × (flat_map block_text blocks ≡ front ++ rest) × (more ≡ less ++ blocks)
+pub record GainedPart (got got' : Option (List ℕ)) (less more : List (List Frame)) : Type 0 where
+  pub front : List ℕ
+  pub rest : List ℕ
+  pub blocks : List (List Frame)
+  pub octets : Appends got got' front
+  pub split : flat_map block_text blocks ≡ front ++ rest
+  pub more_by : more ≡ less ++ blocks
 
 -- how many packets are accepted by what became of a record
 abbrev pub taken_in : Heard → ℕ
@@ -33,16 +42,17 @@ taken_in NoPlace = 0
 taken_in Accepted = 1
 
 -- it is a packet of the session, accepted or not
-abbrev pub IsPacket : Heard → Type 0
-IsPacket Null = ⊥
-IsPacket NoRtp = ⊥
-IsPacket OtherType = ⊥
-IsPacket NoPayload = ⊥
-IsPacket NoPlace = ⊤
-IsPacket Accepted = ⊤
+abbrev pub IsOfSession : Heard → Type 0
+IsOfSession Null = ⊥
+IsOfSession NoRtp = ⊥
+IsOfSession OtherType = ⊥
+IsOfSession NoPayload = ⊥
+IsOfSession NoPlace = ⊤
+IsOfSession Accepted = ⊤
 
 -- which of the tests of a recording a record meets, and how many packets it is
-pub record Meets (r : Recording) (octets : List ℕ) (null rtp other_type payload : Bool) (packets : ℕ) : Type 0 where
+pub record Meets (r : Recording) (octets : List ℕ)
+    (null rtp other_type payload : Bool) (packets : ℕ) : Type 0 where
   pub null_is : is_null octets ≡ null
   pub rtp_is : is_no_rtp octets ≡ rtp
   pub other_type_is : is_other_type r.asked octets ≡ other_type
@@ -58,27 +68,64 @@ IsTold r octets NoPayload = Meets r octets false false false true 0
 IsTold r octets NoPlace = Meets r octets false false false false 1
 IsTold r octets Accepted = Meets r octets false false false false 1
 
--- a receiver took a record behind others
-pub record Hears (job : RecordJob) (v v' : View) (octets : List ℕ) : Type 0 where
-  pub stands : (records : List (List ℕ)) → StandsFor v (packets_of job.plan.profile job.pt records)
-      → StandsFor v' (packets_of job.plan.profile job.pt (records ++ octets ∷ []))
+-- a receiver has a record more behind it
+pub record GoesOn (v v' : View) : Type 0 where
+  pub unspent : v'.spent ≡ false
+  pub bounded : (n : ℕ) → IsBounded n v → IsBounded (n + 1) v'
 
--- what went out on it
-pub record PutsOut (job : RecordJob) (v : View) (octets : List ℕ) (got got' : Option (List ℕ)) : Type 0 where
-  pub out : (records : List (List ℕ)) → StandsFor v (packets_of job.plan.profile job.pt records)
-      → Gained got got' (sent job.plan (packets_of job.plan.profile job.pt records)) (sent job.plan (packets_of job.plan.profile job.pt (records ++ octets ∷ [])))
+-- a packet behind others was accepted or refused, which changed the receiver and what went out
+pub record Offers (job : RecordJob) (v v' : View) (x : Packet) (got got' : Option (List ℕ))
+    (heard : Heard) : Type 0 where
+  pub of_session : IsOfSession heard
+  pub stands : (h : List Packet) → StandsFor v h → StandsFor v' (h ++ x ∷ [])
+  pub out : (h : List Packet) → StandsFor v h
+      → Gained got got' (sent job.plan h) (sent job.plan (h ++ x ∷ []))
+  pub accepts : (h : List Packet) → StandsFor v h
+      → length (accepted (rules_in job.plan) (h ++ x ∷ []))
+      ≡ length (accepted (rules_in job.plan) h) + taken_in heard
+  pub on : GoesOn v v'
 
 -- a front of what would have gone out on it did
-pub record PutsFront (job : RecordJob) (v : View) (octets : List ℕ) (got got' : Option (List ℕ)) : Type 0 where
-  pub out : (records : List (List ℕ)) → StandsFor v (packets_of job.plan.profile job.pt records)
-      → GainedPart got got' (sent job.plan (packets_of job.plan.profile job.pt records)) (sent job.plan (packets_of job.plan.profile job.pt (records ++ octets ∷ [])))
+pub record OffersPart (job : RecordJob) (v : View) (x : Packet) (got got' : Option (List ℕ))
+    : Type 0 where
+  pub out : (h : List Packet) → StandsFor v h
+      → GainedPart got got' (sent job.plan h) (sent job.plan (h ++ x ∷ []))
 
--- whether it is an accepted packet
-pub record Takes (job : RecordJob) (v : View) (octets : List ℕ) (heard : Heard) : Type 0 where
-  pub accepts : (records : List (List ℕ)) → StandsFor v (packets_of job.plan.profile job.pt records)
-      → length (accepted (rules_in job.plan) (packets_of job.plan.profile job.pt (records ++ octets ∷ [])))
-      ≡ length (accepted (rules_in job.plan) (packets_of job.plan.profile job.pt records)) + taken_in heard
+-- the packets among records
+abbrev pub among : RecordJob → List (List ℕ) → List Packet
+among job records = packets_of job.plan.profile job.pt records
 
--- it is a record more
-pub record GoesOn (v v' : View) : Type 0 where
-  pub bounded : (n : ℕ) → IsBounded n v → IsBounded (n + 1) v'
+-- a record behind others was heard as this, which changed the receiver and what went out
+pub record Hears (job : RecordJob) (v v' : View) (octets : List ℕ) (got got' : Option (List ℕ))
+    (heard : Heard) : Type 0 where
+  pub told : IsTold (recording_of job) octets heard
+  pub stands : (records : List (List ℕ)) → StandsFor v (among job records)
+      → StandsFor v' (among job (records ++ octets ∷ []))
+  pub out : (records : List (List ℕ)) → StandsFor v (among job records)
+      → Gained got got' (sent job.plan (among job records))
+      (sent job.plan (among job (records ++ octets ∷ [])))
+  pub accepts : (records : List (List ℕ)) → StandsFor v (among job records)
+      → length (accepted (rules_in job.plan) (among job (records ++ octets ∷ [])))
+      ≡ length (accepted (rules_in job.plan) (among job records)) + taken_in heard
+  pub on : GoesOn v v'
+
+-- a front of what would have gone out on it did
+pub record HearsPart (job : RecordJob) (v : View) (octets : List ℕ) (got got' : Option (List ℕ))
+    : Type 0 where
+  pub out : (records : List (List ℕ)) → StandsFor v (among job records)
+      → GainedPart got got' (sent job.plan (among job records))
+      (sent job.plan (among job (records ++ octets ∷ [])))
+
+-- a session ended: the blocks that were held went out, and all are counted
+pub record EndsSession (job : RecordJob) (v v' : View) (got got' : Option (List ℕ)) : Type 0 where
+  pub out : (h : List Packet) → StandsFor v h
+      → Gained got got' (sent job.plan h) (released (rules_in job.plan) h)
+  pub late : v'.counts.late ≡ v.counts.late
+  pub copies : v'.counts.copies ≡ v.counts.copies
+  pub blocks : (h : List Packet) → StandsFor v h
+      → v'.counts.blocks ≡ block_count (rules_in job.plan) h
+
+-- a front of the blocks that were held went out
+pub record EndsPart (job : RecordJob) (v : View) (got got' : Option (List ℕ)) : Type 0 where
+  pub out : (h : List Packet) → StandsFor v h
+      → GainedPart got got' (sent job.plan h) (released (rules_in job.plan) h)

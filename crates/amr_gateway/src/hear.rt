@@ -1,20 +1,15 @@
 // Hearing a record: a packet of the session goes to the receiver, and any other record is passed over.
-ghost use Rattle.std.specs.Prelude.{◌≡◌, ◌+◌, ◌++◌, ◌<◌, ◌≤◌, ◌^◌, [], ◌∷◌, ℕ, IfOk, List, OnErr, OnOk, false, length};
-ghost use Rattle.amr_gateway.specs.Going.{IsBounded};
-ghost use Rattle.amr_gateway.specs.Hearing.{Gained, GainedPart, GoesOn, Hears, IsPacket, IsTold, PutsFront, PutsOut, Takes, taken_in};
-ghost use Rattle.amr_gateway.specs.Jobs.{IsServed, recording_of};
+ghost use Rattle.std.specs.Prelude.{◌≡◌, ◌≤◌, ◌^◌, ℕ, IfOk, OnErr, OnOk, false};
+ghost use Rattle.amr_gateway.specs.Going.{IsBounded, TakesRecord};
+ghost use Rattle.amr_gateway.specs.Hearing.{EndsPart, EndsSession, Hears, HearsPart, Offers, OffersPart};
+ghost use Rattle.amr_gateway.specs.Jobs.{IsServed};
 ghost use Rattle.amr_io.specs.Fault.{HasCause};
 ghost use Rattle.amr_playout.specs.Heard.{heard as heard_as};
-ghost use Rattle.amr_playout.specs.Plans.{rules_in};
-ghost use Rattle.amr_playout.specs.Receiver.{StandsFor, sent};
 ghost use Rattle.amr_toc.specs.Viewed.{format_of};
-ghost use Rattle.spec_session.specs.Counts.{block_count};
-ghost use Rattle.spec_session.specs.Packets.{Packet, is_asked as is_type_asked};
-ghost use Rattle.spec_session.specs.Release.{released};
-ghost use Rattle.spec_session.specs.Session.{accepted};
+ghost use Rattle.spec_session.specs.Packets.{is_asked as is_type_asked};
 
+use crate::heard::Heard;
 use crate::job::RecordJob;
-use crate::tally::Heard;
 use amr_io::{Failed, Sink};
 use amr_payload::read_payload;
 use amr_playout::{Offered, Receiver};
@@ -44,20 +39,16 @@ pub fn hear<O: Sink>(
 ) -> Result<Heard, Failed>
     requires served { IsServed job.now }
     requires plan { receiver.old.plan ≡ job.now.plan }
-    requires unspent { receiver.old.spent ≡ false }
-    requires bounded { (n : ℕ) × (n < 2 ^ 40) × IsBounded n receiver.old }
+    requires ready { TakesRecord receiver.old }
 
-    ensures heard { OnOk result (Hears job.now receiver.old receiver.new octets.now) }
-    ensures out { OnOk result (PutsOut job.now receiver.old octets.now (O.got output.old) (O.got output.new)) }
-    ensures told { IfOk result (IsTold (recording_of job.now) octets.now) }
-    ensures accepted { IfOk result (Takes job.now receiver.old octets.now) }
-    ensures bounded { OnOk result (GoesOn receiver.old receiver.new) }
-    ensures unspent { OnOk result (receiver.new.spent ≡ false) }
-
-    ensures part { OnErr result (PutsFront job.now receiver.old octets.now (O.got output.old) (O.got output.new)) }
+    ensures heard { IfOk result (Hears job.now receiver.old receiver.new octets.now
+        (O.got output.old) (O.got output.new)) }
+    ensures part { OnErr result (HearsPart job.now receiver.old octets.now
+        (O.got output.old) (O.got output.new)) }
 
     ensures plan { receiver.new.plan ≡ receiver.old.plan }
     ensures cause { HasCause (O.faults output.old) (O.faults output.new) result }
+    ensures beside { O.beside output.new ≡ O.beside output.old }
     ensures same { O.same output.old output.new }
 {
     if octets.is_empty() {
@@ -89,24 +80,16 @@ fn offer<O: Sink>(
     requires served { IsServed job.now }
     requires plan { receiver.old.plan ≡ job.now.plan }
     requires format { format_of payload.now ≡ job.now.plan.profile }
-    requires unspent { receiver.old.spent ≡ false }
-    requires bounded { (n : ℕ) × (n < 2 ^ 40) × IsBounded n receiver.old }
+    requires ready { TakesRecord receiver.old }
 
-    ensures heard { OnOk result ((h : List Packet) → StandsFor receiver.old h → StandsFor receiver.new (h ++ heard_as rtp.now payload.now ∷ [])) }
-    ensures out { OnOk result ((h : List Packet) → StandsFor receiver.old h
-        → Gained (O.got output.old) (O.got output.new) (sent job.now.plan h) (sent job.now.plan (h ++ heard_as rtp.now payload.now ∷ []))) }
-    ensures packet { IfOk result IsPacket }
-    ensures accepted { IfOk result (λ kind. (h : List Packet) → StandsFor receiver.old h
-        → length (accepted (rules_in job.now.plan) (h ++ heard_as rtp.now payload.now ∷ [])) ≡ length (accepted (rules_in job.now.plan) h) + taken_in kind) }
-    ensures bounded { OnOk result (GoesOn receiver.old receiver.new) }
-    ensures unspent { OnOk result (receiver.new.spent ≡ false) }
-
-    ensures part { OnErr result ((h : List Packet) → StandsFor receiver.old h
-        → GainedPart (O.got output.old) (O.got output.new) (sent job.now.plan h) (sent job.now.plan (h ++ heard_as rtp.now payload.now ∷ []))) }
+    ensures offered { IfOk result (Offers job.now receiver.old receiver.new
+        (heard_as rtp.now payload.now) (O.got output.old) (O.got output.new)) }
+    ensures part { OnErr result (OffersPart job.now receiver.old
+        (heard_as rtp.now payload.now) (O.got output.old) (O.got output.new)) }
 
     ensures plan { receiver.new.plan ≡ receiver.old.plan }
     ensures cause { HasCause (O.faults output.old) (O.faults output.new) result }
-    ensures same { O.same output.old output.new }
+    ensures same { O.same output.old output.new × (O.beside output.new ≡ O.beside output.old) }
 {
     let profile = &job.plan.profile;
     let mut writer = StoreWriter::resume(profile.codec, profile.channels, output);
@@ -129,17 +112,16 @@ pub fn end_session<O: Sink>(
 ) -> Result<(), Failed>
     requires served { IsServed job.now }
     requires plan { receiver.old.plan ≡ job.now.plan }
-    requires unspent { receiver.old.spent ≡ false }
-    requires bounded { (n : ℕ) × (n ≤ 2 ^ 40) × IsBounded n receiver.old }
+    requires ready { (receiver.old.spent ≡ false) × (n : ℕ) × (n ≤ 2 ^ 40) × IsBounded n receiver.old }
 
-    ensures out { OnOk result ((h : List Packet) → StandsFor receiver.old h → Gained (O.got output.old) (O.got output.new) (sent job.now.plan h) (released (rules_in job.now.plan) h)) }
-    ensures kept { OnOk result ((receiver.new.counts.late ≡ receiver.old.counts.late) × (receiver.new.counts.copies ≡ receiver.old.counts.copies)) }
-    ensures all { OnOk result ((h : List Packet) → StandsFor receiver.old h → receiver.new.counts.blocks ≡ block_count (rules_in job.now.plan) h) }
-
-    ensures part { OnErr result ((h : List Packet) → StandsFor receiver.old h → GainedPart (O.got output.old) (O.got output.new) (sent job.now.plan h) (released (rules_in job.now.plan) h)) }
+    ensures ended { OnOk result (EndsSession job.now receiver.old receiver.new
+        (O.got output.old) (O.got output.new)) }
+    ensures part { OnErr result (EndsPart job.now receiver.old
+        (O.got output.old) (O.got output.new)) }
 
     ensures plan { receiver.new.plan ≡ receiver.old.plan }
     ensures cause { HasCause (O.faults output.old) (O.faults output.new) result }
+    ensures beside { O.beside output.new ≡ O.beside output.old }
     ensures same { O.same output.old output.new }
 {
     let profile = &job.plan.profile;

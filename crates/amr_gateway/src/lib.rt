@@ -2,15 +2,13 @@
 #![tactic(auto)]
 
 mod hear;
+mod heard;
 mod job;
 mod record;
 mod recorder;
-mod report;
-mod tally;
 #[cfg(test)]
 mod tests;
 
-pub use amr_notes::Counts;
 pub use job::RecordJob;
 pub use record::record_log;
-pub use report::{RunEnd, RunReport};
+pub use run_report::{Counts, RunEnd, RunReport};

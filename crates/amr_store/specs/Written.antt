@@ -20,14 +20,23 @@ is_open Spent = false
 abbrev pub takes_blocks : Stage → ℕ → Bool
 takes_blocks stage channels = is_open stage && nat_le 1 channels && nat_le channels 6
 
--- two writers write to the same sink, and it to the same object
-abbrev pub SameSink : {O : Type 0} → (O → O → Type 0) → StoreWriter O → StoreWriter O → Type 0
-SameSink same v w = (w.sink.ghost_name ≡ v.sink.ghost_name) × same v.sink.now w.sink.now
+-- two writers write to the same sink, it to the same object, and what stands beside its octets is as before
+pub record SameSink {O : Type 0} (aside : O → Option (List (List ℕ × List ℕ)))
+    (alike : O → O → Type 0) (v w : StoreWriter O) : Type 0 where
+  pub reference : w.sink.ghost_name ≡ v.sink.ghost_name
+  pub object : alike v.sink.now w.sink.now
+  pub beside : aside w.sink.now ≡ aside v.sink.now
 
--- the sink got the octets of a block more, and what stands beside them is as before
-abbrev pub WroteBlock : {O : Type 0} → (O → Option (List ℕ)) → (O → Option (List (List ℕ × List ℕ))) → (O → O → Type 0) → StoreWriter O → List Frame → StoreWriter O → Type 0
-WroteBlock got beside same v block w = SameSink same v w × Appends (got v.sink.now) (got w.sink.now) (block_text block) × (beside w.sink.now ≡ beside v.sink.now)
+-- the sink got the octets of a block more
+pub record WroteBlock {O : Type 0} (got : O → Option (List ℕ))
+    (aside : O → Option (List (List ℕ × List ℕ))) (alike : O → O → Type 0)
+    (v : StoreWriter O) (block : List Frame) (w : StoreWriter O) : Type 0 where
+  pub same : SameSink aside alike v w
+  pub octets : Appends (got v.sink.now) (got w.sink.now) (block_text block)
 
 -- the sink got a front of the octets of a block more
-abbrev pub WrotePart : {O : Type 0} → (O → Option (List ℕ)) → (O → Option (List (List ℕ × List ℕ))) → (O → O → Type 0) → StoreWriter O → List Frame → StoreWriter O → Type 0
-WrotePart got beside same v block w = SameSink same v w × AppendsFront (got v.sink.now) (got w.sink.now) (block_text block) × (beside w.sink.now ≡ beside v.sink.now)
+pub record WrotePart {O : Type 0} (got : O → Option (List ℕ))
+    (aside : O → Option (List (List ℕ × List ℕ))) (alike : O → O → Type 0)
+    (v : StoreWriter O) (block : List Frame) (w : StoreWriter O) : Type 0 where
+  pub same : SameSink aside alike v w
+  pub octets : AppendsFront (got v.sink.now) (got w.sink.now) (block_text block)

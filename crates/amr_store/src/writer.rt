@@ -1,6 +1,5 @@
 ghost use Rattle.std.specs.Prelude.{◌≡◌, ◌≤◌, OnErr, OnOk};
 ghost use Rattle.std.specs.List.{AllByRecursion};
-ghost use Rattle.std.proofs.Common.{refl, ◌∙◌};
 ghost use Rattle.std.specs.Io.KnownBytes.{Appends};
 ghost use Rattle.amr_io.specs.Fault.{HasCause};
 ghost use Rattle.amr_store.specs.Written.{AppendsFront, takes_blocks};
@@ -151,6 +150,7 @@ pub fn write_cells<O: Sink>(cells: &[Cell], sink: &mut O) -> Result<(), Failed>
 
 impl<'a, O: Sink> BlockSink for StoreWriter<'a, O> {
     ghost use Rattle.amr_store.specs.Written.{SameSink, WroteBlock, WrotePart};
+    ghost use Rattle.amr_store.specs.SinkLaws.{same_sink, through};
 
     ghost codec = { λ w. w.codec };
 
@@ -164,7 +164,7 @@ impl<'a, O: Sink> BlockSink for StoreWriter<'a, O> {
 
     ghost part = { λ v block w. WrotePart O.got O.beside O.same v block w };
 
-    ghost same = { λ v w. SameSink O.same v w };
+    ghost same = { λ v w. SameSink O.beside O.same v w };
 
     #[inline(always)]
     fn put_block(&mut self, cells: &[Cell]) -> Result<(), Failed> {
@@ -174,7 +174,7 @@ impl<'a, O: Sink> BlockSink for StoreWriter<'a, O> {
         Ok(())
     }
 
-    ghost reflexive = { λ w. (refl, O.reflexive w.sink.now) };
+    ghost reflexive = { λ w. same_sink O.beside O.same O.reflexive w };
 
-    ghost transitive = { λ a b c p q. (q.0 ∙ p.0, O.transitive a.sink.now b.sink.now c.sink.now p.1 q.1) };
+    ghost transitive = { λ a b c p q. through O.beside O.same O.transitive a b c p q };
 }

@@ -1,4 +1,4 @@
-use Rattle.std.proofs.Common.{◌≡◌, sym, ◌∙◌, subst}
+use Rattle.std.proofs.Common.{◌≡◌, ap, sym, ◌∙◌, subst}
 use Rattle.amr_gateway.proofs.Bounds.{room}
 use Rattle.amr_gateway.proofs.Carried.{gained_at, gained_part_at}
 use Rattle.amr_gateway.proofs.Plans.{channels_within, takes_at}
@@ -16,25 +16,34 @@ resume-writer-requires-clause-some g c = (channels_within c.args.job.now.plan c.
 pub resume-writer-requires-clause-most : goal.resume-writer-requires-clause-most
 resume-writer-requires-clause-most g c = (channels_within c.args.job.now.plan c.requires.served.plan).1
 
+pub finish-requires-clause-unspent : goal.finish-requires-clause-unspent
+finish-requires-clause-unspent g c = c.requires.ready.0
+
 pub finish-requires-clause-ready : goal.finish-requires-clause-ready
 finish-requires-clause-ready g c = takes_at c.args.job.now.plan c.resume-writer.result.stage c.resume-writer.result.channels c.requires.served.plan c.resume-writer.ensures.stage c.resume-writer.ensures.format.1
 
 pub finish-requires-clause-below : goal.finish-requires-clause-below
 finish-requires-clause-below g c =
-    let b = c.requires.bounded in
-    let r = room b.0 c.args.receiver.now b.1 b.2 in
+    let ready = c.requires.ready in
+    let r = room ready.1 c.args.receiver.now ready.2 ready.3 in
     (r.session, r.blocks)
 
-pub returns-in-Ok-clause-out : goal.returns-in-Ok-clause-out
-returns-in-Ok-clause-out g c = λ h stands.
-    gained_at g.O.Sink.got (λ (p : Plan). sent p h) (λ (p : Plan). released (rules_in p) h) c.args.receiver.now.plan c.args.job.now.plan _ _ _ _ c.requires.plan c.resume-writer.ensures.now (c.output-1.given.1 (sym (c.finish.ensures.same.0 ∙ c.resume-writer.ensures.same_reference)))
-    (gained g.O.Sink.got g.O.Sink.beside g.O.Sink.same g.met.O.Sink.reflexive g.met.O.Sink.transitive c.resume-writer.result c.finish.new.out _ _ (c.in-Ok.ensures.out h stands))
-
-pub returns-in-Ok-clause-all : goal.returns-in-Ok-clause-all
-returns-in-Ok-clause-all g c = λ h stands.
-    subst (λ (p : Plan). c.finish.new.self.counts.blocks ≡ block_count (rules_in p) h) c.requires.plan (c.in-Ok.ensures.all h stands)
+pub returns-in-Ok-clause-ended : goal.returns-in-Ok-clause-ended
+returns-in-Ok-clause-ended g c =
+    let new = c.in-Ok.ensures in
+    record {
+      out = λ h stands.
+          gained_at g.O.Sink.got (λ (p : Plan). sent p h) (λ (p : Plan). released (rules_in p) h) c.args.receiver.now.plan c.args.job.now.plan _ _ _ _ c.requires.plan c.resume-writer.ensures.now (c.output-1.given.1 (sym (c.finish.ensures.same.reference ∙ c.resume-writer.ensures.same_reference)))
+          (gained g.O.Sink.got g.O.Sink.beside g.O.Sink.same g.met.O.Sink.reflexive g.met.O.Sink.transitive c.resume-writer.result c.finish.new.out _ _ (new.out h stands));
+      late = ap (λ k. k.late) new.counts;
+      copies = ap (λ k. k.copies) new.counts;
+      blocks = λ h stands.
+          subst (λ (p : Plan). c.finish.new.self.counts.blocks ≡ block_count (rules_in p) h) c.requires.plan (new.all h stands);
+    }
 
 pub returns-in-Err-clause-part : goal.returns-in-Err-clause-part
-returns-in-Err-clause-part g c = λ h stands.
-    gained_part_at g.O.Sink.got (λ (p : Plan). sent p h) (λ (p : Plan). released (rules_in p) h) c.args.receiver.now.plan c.args.job.now.plan _ _ _ _ c.requires.plan c.resume-writer.ensures.now (c.output-1.given.1 (sym (c.finish.ensures.same.0 ∙ c.resume-writer.ensures.same_reference)))
-    (gained_part g.O.Sink.got g.O.Sink.beside g.O.Sink.same g.met.O.Sink.reflexive g.met.O.Sink.transitive c.resume-writer.result c.finish.new.out _ _ (c.in-Err.ensures.part h stands))
+returns-in-Err-clause-part g c = record {
+  out = λ h stands.
+      gained_part_at g.O.Sink.got (λ (p : Plan). sent p h) (λ (p : Plan). released (rules_in p) h) c.args.receiver.now.plan c.args.job.now.plan _ _ _ _ c.requires.plan c.resume-writer.ensures.now (c.output-1.given.1 (sym (c.finish.ensures.same.reference ∙ c.resume-writer.ensures.same_reference)))
+      (gained_part g.O.Sink.got g.O.Sink.beside g.O.Sink.same g.met.O.Sink.reflexive g.met.O.Sink.transitive c.resume-writer.result c.finish.new.out _ _ (c.in-Err.ensures.part h stands));
+}

@@ -1,0 +1,40 @@
+// The engine of each command, and the lines that it notes.
+ghost use Rattle.std.specs.Prelude.{◌≡◌, false};
+ghost use Rattle.amr_cli.specs.Jobs.{IsServed, meaning_of};
+ghost use Rattle.spec_run.specs.Meanings.{Works, work_of};
+
+use crate::job::Job;
+use amr_gateway::record_log;
+use amr_io::{Sink, Source};
+use run_report::{CountLines, RunEnd, RunReport};
+use std::alloc::Global;
+
+/// Runs the engine of a job.
+pub fn run_engine<I: Source, O: Sink>(
+    alloc: Global,
+    job: &Job,
+    input: &mut I,
+    output: &mut O,
+) -> RunReport
+    requires served { IsServed job.now }
+
+    ensures works { Works (meaning_of job.now)
+        (work_of I.Source O.Sink input.old input.new output.old output.new result) }
+    ensures memory { result.end ≡ RunEnd.OutOfMemory → (output.new ≡ output.old)
+        × ((meaning_of job.now).reads_first ≡ false → input.new ≡ input.old) }
+    ensures beside { O.beside output.new ≡ O.beside output.old }
+    ensures same { O.same output.old output.new }
+{
+    match job {
+        Job::RecordLog(job) => record_log(alloc, job, input, output),
+    }
+}
+
+/// The lines of its counts that a job notes.
+pub fn noted_lines(job: &Job) -> CountLines
+    ensures { result ≡ (meaning_of job.now).lines }
+{
+    match job {
+        Job::RecordLog(_) => CountLines::Recording,
+    }
+}

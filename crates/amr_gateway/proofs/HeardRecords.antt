@@ -1,0 +1,64 @@
+-- What a record changes that is no packet of the session, and what a packet changes.
+use Rattle.std.proofs.Common.{◌≡◌, ℕ, ◌+◌, false, List, [], ◌∷◌, ◌++◌, length, ap, ◌∙◌, sym, subst, arith, Option, Some}
+use Rattle.std.specs.Prelude.{OnErr, IfOk, Result, Ok, Err}
+use Rattle.amr_io.specs.declared.source.Failed.{Failed}
+use Rattle.amr_gateway.proofs.Bounds.{bounded_same}
+use Rattle.amr_gateway.proofs.Passing.{told_packet}
+use Rattle.amr_gateway.proofs.Records.{packets_more, packets_same}
+use Rattle.amr_gateway.proofs.Texts.{gained_none}
+use Rattle.amr_gateway.specs.Hearing.{Gained, GainedPart, Hears, HearsPart, IsTold, Meets, Offers, OffersPart, among, taken_in}
+use Rattle.amr_gateway.specs.Jobs.{recording_of}
+use Rattle.amr_gateway.specs.declared.heard.Heard.{Heard}
+use Rattle.amr_gateway.specs.declared.job.RecordJob.{RecordJob}
+use Rattle.amr_playout.specs.Plans.{rules_in}
+use Rattle.amr_playout.specs.Receiver.{StandsFor, View, sent}
+use Rattle.spec_session.specs.Packets.{Packet, packet_of, packets_of}
+use Rattle.spec_session.specs.Session.{accepted}
+
+-- how many packets of a list are accepted
+abbrev taken_of : RecordJob → List Packet → ℕ
+taken_of job h = length (accepted (rules_in job.plan) h)
+
+-- no packet
+pub passed : (job : RecordJob) (v : View) (octets : List ℕ) (got : Option (List ℕ)) (heard : Heard)
+    → v.spent ≡ false → taken_in heard ≡ 0 → IsTold (recording_of job) octets heard
+    → length (packets_of job.plan.profile job.pt (octets ∷ [])) ≡ 0
+    → Hears job v v octets got got heard
+passed job v octets got heard unspent none told e =
+    let same : (records : List (List ℕ)) → among job (records ++ octets ∷ []) ≡ among job records =
+    λ records. packets_same (recording_of job) records octets e in record {
+      told = told;
+      stands = λ records s. subst (StandsFor v) (sym (same records)) s;
+      out = λ records s. gained_none got _ _ (ap (sent job.plan) (same records));
+      accepts = λ records s. let as_before = ap (taken_of job) (same records) in omega (arith, as_before, none);
+      on = record { unspent = unspent; bounded = λ n b. bounded_same n v b };
+    }
+
+module _ (job : RecordJob) (v : View) (octets : List ℕ) (x : Packet) (got got' : Option (List ℕ))
+    (is : packet_of job.plan.profile job.pt octets ≡ Some x) where
+  behind : (records : List (List ℕ)) → among job records ++ x ∷ [] ≡ among job (records ++ octets ∷ [])
+  behind records = sym (packets_more (recording_of job) records octets x is)
+
+  -- a packet
+  pub packet_heard : (v' : View) (r : Result Heard Failed)
+      → Meets (recording_of job) octets false false false false 1
+      → IfOk r (Offers job v v' x got got') → IfOk r (Hears job v v' octets got got')
+  packet_heard v' (Ok heard) m o = record {
+    told = told_packet (recording_of job) octets heard o.of_session m;
+    stands = λ records s. subst (StandsFor v') (behind records) (o.stands (among job records) s);
+    out = λ records s.
+        subst (λ h. Gained got got' (sent job.plan (among job records)) (sent job.plan h)) (behind records)
+        (o.out (among job records) s);
+    accepts = λ records s. ap (taken_of job) (sym (behind records)) ∙ o.accepts (among job records) s;
+    on = o.on;
+  }
+  packet_heard v' (Err f) m o = tt
+
+  pub packet_part : (r : Result Heard Failed)
+      → OnErr r (OffersPart job v x got got') → OnErr r (HearsPart job v octets got got')
+  packet_part (Ok heard) o = tt
+  packet_part (Err f) o = record {
+    out = λ records s.
+        subst (λ h. GainedPart got got' (sent job.plan (among job records)) (sent job.plan h)) (behind records)
+        (o.out (among job records) s);
+  }
