@@ -5,8 +5,11 @@ use Rattle.std.proofs.lemmas.Result.{on_err_weaker}
 use Rattle.std.specs.Io.KnownBytes.{Appends, Keeps}
 use Rattle.std.proofs.KnownBytes.{Appends-nil, Appends-trans, Appends-kept}
 use Rattle.amr_io.specs.Told.{Writes, AppendsPart}
+use Rattle.amr_io.specs.declared.sink.Sink as sink
 use Rattle.log_engine.specs.Tray.{Grows}
-use Rattle.log_engine.specs.Run.{Puts, PutsPart}
+use Rattle.log_engine.specs.Puts.{Puts, PutsPart}
+use Rattle.log_engine.specs.Turns.{SameSink}
+use Rattle.log_engine.specs.declared.gather_sink.GatherSink.{GatherSink}
 
 pub Grows-refl : (a : Option (List ℕ)) → Grows a a
 Grows-refl a = ([], Appends-nil a)
@@ -22,22 +25,53 @@ Grows-writes a b (Ok n) bytes wrote = (take n bytes, wrote.2)
 Grows-writes a b (Err e) bytes kept = ([], Keeps-Appends a b kept)
 
 -- all of it, and then nothing more, is a part
-pub part_kept : {A E : Type 0} (a b c : Option (List ℕ)) (whole : List ℕ) (r : Result A E) → Appends a b whole → Keeps b c → OnErr r (PutsPart a c [] whole)
+pub part_kept : {A E : Type 0} (a b c : Option (List ℕ)) (whole : List ℕ) (r : Result A E)
+    → Appends a b whole → Keeps b c → OnErr r (PutsPart a c [] whole)
 part_kept a b c whole (Ok x) put kept = _
-part_kept a b c whole (Err e) put kept = (whole, Appends-kept a b c whole put kept, ([], sym (append-nil whole)))
+part_kept a b c whole (Err e) put kept = record {
+  part = whole;
+  put = Appends-kept a b c whole put kept;
+  within = ([], sym (append-nil whole));
+}
 
 -- what a record brings was put out whole
-pub puts_whole : (a b : Option (List ℕ)) (before bytes after : List ℕ) → after ≡ before ++ bytes → Appends a b bytes → Puts a b before after
-puts_whole a b before bytes after same put = (bytes, put, same)
+pub puts_whole : (a b : Option (List ℕ)) (before bytes after : List ℕ)
+    → after ≡ before ++ bytes → Appends a b bytes → Puts a b before after
+puts_whole a b before bytes after same put = record { more = bytes; put = put; grown = same }
 
 -- a part of what a record brings was put out
-pub puts_part : (a b : Option (List ℕ)) (before bytes after : List ℕ) → after ≡ before ++ bytes → AppendsPart a b bytes → PutsPart a b before after
+pub puts_part : (a b : Option (List ℕ)) (before bytes after : List ℕ)
+    → after ≡ before ++ bytes → AppendsPart a b bytes → PutsPart a b before after
 puts_part a b before bytes after same part =
-    (take part.0 bytes, part.2, (drop part.0 bytes, same ∙ ap (λ l. before ++ l) (sym (take-append-drop part.0 bytes)) ∙ sym (append_assoc before (take part.0 bytes) (drop part.0 bytes))))
+    let front : List ℕ = take part.0 bytes in
+    let more : List ℕ = drop part.0 bytes in
+    let split : before ++ bytes ≡ before ++ (front ++ more) =
+    ap (λ l. before ++ l) (sym (take-append-drop part.0 bytes)) in
+    record {
+      part = front;
+      put = part.2;
+      within = (more, same ∙ split ∙ sym (append_assoc before front more));
+    }
 
 -- where what a record brings is written in one piece, a failed write put out a part of it
-pub take_failed : {A E : Type 0} (a b : Option (List ℕ)) (r : Result A E) (puts : List (List ℕ) → List ℕ) (stands : List (List ℕ) → Type 0) (packet bytes : List ℕ)
-    → ((hs : List (List ℕ)) → puts (hs ++ packet ∷ []) ≡ puts hs ++ bytes) → OnErr r (AppendsPart a b bytes)
-    → OnErr r ((hs : List (List ℕ)) → stands hs → PutsPart a b (puts hs) (puts (hs ++ packet ∷ [])))
-take_failed a b r puts stands packet bytes more part =
-    on_err_weaker r (λ (p : AppendsPart a b bytes) hs _. puts_part a b (puts hs) bytes (puts (hs ++ packet ∷ [])) (more hs) p) part
+pub handle_failed : {A E : Type 0} (a b : Option (List ℕ)) (r : Result A E)
+    (early : List (List ℕ) → List ℕ) (stands : List (List ℕ) → Type 0) (packet bytes : List ℕ)
+    → ((hs : List (List ℕ)) → early (hs ++ packet ∷ []) ≡ early hs ++ bytes)
+    → OnErr r (AppendsPart a b bytes)
+    → OnErr r ((hs : List (List ℕ)) → stands hs
+        → PutsPart a b (early hs) (early (hs ++ packet ∷ [])))
+handle_failed a b r early stands packet bytes more part =
+    let one = λ (p : AppendsPart a b bytes) (hs : List (List ℕ)) (_ : stands hs).
+    puts_part a b (early hs) bytes (early (hs ++ packet ∷ [])) (more hs) p in
+    on_err_weaker r one part
+
+-- what is the same through two steps
+pub same_through : {B : Type 0} (k : sink.Ghosts B)
+    (law : (a b c : B) → k.same a b → k.same b c → k.same a c)
+    (s0 s1 s2 : GatherSink B) → SameSink k s0 s1 → SameSink k s1 s2 → SameSink k s0 s2
+same_through k law s0 s1 s2 p q = record {
+  reference = q.reference ∙ p.reference;
+  same = law s0.output.now s1.output.now s2.output.now p.same q.same;
+  beside = q.beside ∙ p.beside;
+  grows = Grows-through (k.got s0.output.now) (k.got s1.output.now) (k.got s2.output.now) p.grows q.grows;
+}

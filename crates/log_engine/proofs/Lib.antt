@@ -1,5 +1,10 @@
+pub mod CloseLemmas
+pub mod FaultLemmas
 pub mod GrowsLemmas
-pub mod TurnLemmas
+pub mod OutLemmas
 pub mod ProgressLemmas
+pub mod ReadLemmas
 pub mod ToldLemmas
 pub mod TrayLemmas
+pub mod TurnLemmas
+pub mod WorksLemmas

@@ -1,386 +1,369 @@
 -- How a run goes on, turn by turn.
-use Rattle.std.proofs.Common.{◌≡◌, ℕ, ◌+◌, ◌≤◌, ◌<◌, List, [], ◌∷◌, ◌++◌, ◌^◌, length, refl, sym, ap, subst, ◌∙◌, arith, append-nil, append_assoc, length-append}
+use Rattle.std.proofs.Common.{◌≡◌, ◌≢◌, ℕ, ◌+◌, ◌*◌, ◌≤◌, List, [], ◌∷◌, ◌++◌, length, refl, sym, ap, subst, ◌∙◌, arith, inl, inr, append-nil, append_assoc, length-append}
 use Rattle.std.specs.Prelude.{Option, ◌⊎◌, None, Some}
-use Rattle.std.proofs.Common.{inl, inr}
-use Rattle.rtp_packet.specs.Reading.{Stops}
-use Rattle.rtp_packet.proofs.Records.{partial_not_whole}
-use Rattle.rtp_packet.specs.Reading.{Exhausts}
-use Rattle.log_engine.specs.Turns.{Went, Turned, TurnFaults}
-use Rattle.log_engine.specs.Progress.{After}
-use Rattle.log_engine.specs.declared.turn.Turn.{Turn}
-use Rattle.log_engine.specs.declared.turn.Turn.TheVariants.{Taken, End, Truncated, OverLimit, ReadFault, WriteFault}
-use Rattle.rtp_packet.specs.declared.log_reader.LogReader.{LogReader}
-use Rattle.rtp_packet.specs.Reading.{rest}
 use Rattle.std.specs.Io.KnownBytes.{Appends, Consumes, Keeps, append_known}
-use Rattle.std.proofs.KnownBytes.{Appends-nil, Appends-trans, Appends-kept, Consumes-trans, Consumes-nil}
-use Rattle.std.proofs.lemmas.Grind.{flat_map-append}
-use Rattle.std.proofs.lemmas.List.{append_cancel_left}
-use Rattle.spec_packet.specs.Log.{framed, log_of, AreRecords, IsPartial}
-use Rattle.rtp_packet.specs.Record.{IsWhole}
+use Rattle.std.proofs.KnownBytes.{Appends-kept, Appends-nil, Appends-trans, Consumes-nil}
+use Rattle.amr_io.specs.declared.sink.Sink as sink
+use Rattle.amr_io.specs.declared.source.Source as source
+use Rattle.log_engine.proofs.OutLemmas.{Within, all_written, none_waits, out_within, prefix_refl, prefix_through}
+use Rattle.log_engine.proofs.ReadLemmas.{all_read, moved_length, near_more, one_log, one_record, took_more, why_on}
+use Rattle.log_engine.specs.Progress.{Halted, Progress, Underway, Wrote}
+use Rattle.log_engine.specs.Puts.{Puts, PutsPart}
+use Rattle.log_engine.specs.Run.{Broke, Took}
 use Rattle.log_engine.specs.Tray.{Grows}
-use Rattle.log_engine.specs.Run.{IsPrefix, Puts, PutsPart, Took, Ended, Passed, Broke}
-use Rattle.log_engine.specs.Progress.{Progress, Halt}
+use Rattle.log_engine.specs.Turns.{Brought, Handled, HandledPart, Missed, State, logical, sent, state}
+use Rattle.log_engine.specs.declared.gather_sink.GatherSink.{GatherSink}
+use Rattle.log_engine.specs.declared.handler.RecordHandler as handler
+use Rattle.rtp_packet.proofs.Records.{partial_not_whole}
+use Rattle.rtp_packet.specs.Reading.{limit_of, rest, taken_of}
+use Rattle.rtp_packet.specs.Record.{IsWhole}
+use Rattle.rtp_packet.specs.declared.log_reader.LogReader.{LogReader}
+use Rattle.run_report.specs.declared.end.RunEnd.{RunEnd}
+use Rattle.spec_packet.specs.Log.{IsPartial, log_of}
+use Rattle.spec_run.specs.Flows.{Flow, read_from}
+use Rattle.spec_run.specs.LogRuns.{MOST_HELD, RecordsJob}
+use Rattle.spec_run.specs.Meanings.{IsPrefix}
 
-pub IsPrefix-refl : (a : List ℕ) → IsPrefix a a
-IsPrefix-refl a = ([], sym (append-nil a))
+-- more records put out more
+abbrev pub Grow : RecordsJob → Type 0
+Grow job = (hs more : List (List ℕ)) → IsPrefix (job.early hs) (job.early (hs ++ more))
 
-pub IsPrefix-through : (a b c : List ℕ) → IsPrefix a b → IsPrefix b c → IsPrefix a c
-IsPrefix-through a b c p q = (p.0 ++ q.0, q.1 ∙ ap (λ l. l ++ q.0) p.1 ∙ append_assoc a p.0 q.0)
-
-pub log_of-append : (hs ps : List (List ℕ)) → log_of (hs ++ ps) ≡ log_of hs ++ log_of ps
-log_of-append hs ps = flat_map-append framed hs ps
-
--- the octets of more records, and what is then left
-moved_rest : (hs ps : List (List ℕ)) (rest rest' more : List ℕ) → rest ++ more ≡ log_of ps ++ rest' → (log_of hs ++ rest) ++ more ≡ log_of (hs ++ ps) ++ rest'
-moved_rest hs ps rest rest' more same =
-    append_assoc (log_of hs) rest more ∙ ap (λ l. log_of hs ++ l) same ∙ sym (append_assoc (log_of hs) (log_of ps) rest') ∙ ap (λ l. l ++ rest') (sym (log_of-append hs ps))
-
-pub moved_length : (hs ps : List (List ℕ)) (rest rest' more : List ℕ) (taken taken' : ℕ) → rest ++ more ≡ log_of ps ++ rest' → length (log_of hs ++ rest) ≡ taken → taken' ≡ taken + length more
-    → length (log_of (hs ++ ps) ++ rest') ≡ taken'
-moved_length hs ps rest rest' more taken taken' same size count =
-    let whole : length (log_of (hs ++ ps) ++ rest') ≡ length ((log_of hs ++ rest) ++ more) = ap length (sym (moved_rest hs ps rest rest' more same)) in
-    let parts : length ((log_of hs ++ rest) ++ more) ≡ length (log_of hs ++ rest) + length more = length-append (log_of hs ++ rest) more in
-    omega arith
-
-records_append : (hs ps : List (List ℕ)) → AreRecords hs → AreRecords ps → AreRecords (hs ++ ps)
-records_append [] ps h k = k
-records_append (p ∷ hs) ps h k = (h.0, records_append hs ps h.1 k)
-
-pub Took-more : (left0 left left' : Option (List ℕ)) (limit : ℕ) (hs ps : List (List ℕ)) (rest rest' more extra : List ℕ) → Took left0 left limit hs rest [] → Consumes left left' (more ++ extra)
-    → rest ++ more ≡ log_of ps ++ rest' → AreRecords ps → length (log_of (hs ++ ps) ++ rest') ≤ limit → Took left0 left' limit (hs ++ ps) rest' extra
-Took-more left0 left left' limit hs ps rest rest' more extra took consumed same each within =
-    let before : Consumes left0 left (log_of hs ++ rest) = subst (Consumes left0 left) (append-nil (log_of hs ++ rest)) took.consumed in
-    let all : (log_of hs ++ rest) ++ (more ++ extra) ≡ (log_of (hs ++ ps) ++ rest') ++ extra =
-    sym (append_assoc (log_of hs ++ rest) more extra) ∙ ap (λ l. l ++ extra) (moved_rest hs ps rest rest' more same) in
-    record {
-      consumed = subst (Consumes left0 left') all (Consumes-trans left0 left left' (log_of hs ++ rest) (more ++ extra) before consumed);
-      records = records_append hs ps took.records each;
-      within = within;
-    }
-
--- what is written stays, and is a part of what was put out
-pub out_within : (g0 g1 g2 : Option (List ℕ)) (waiting base all x out : List ℕ) → Appends g0 g1 out → IsPrefix base out → Grows g1 g2 → Appends g0 (append_known g2 waiting) all → IsPrefix all x → IsPrefix base x
-    → (now : List ℕ) × Appends g0 g2 now × IsPrefix base now × IsPrefix now x
-out_within None g1 g2 waiting base all x out a b p q r s = (base, _, IsPrefix-refl base, s)
-out_within (Some g) None g2 waiting base all x out a b p q r s = absurd a
-out_within (Some g) (Some h) None waiting base all x out a b p q r s = absurd p.1
-out_within (Some g) (Some h) (Some k) waiting base all x out a b p q r s =
-    let now : k ≡ g ++ (out ++ p.0) = p.1 ∙ ap (λ l. l ++ p.0) a ∙ append_assoc g out p.0 in
-    let joined : g ++ ((out ++ p.0) ++ waiting) ≡ g ++ all = sym (append_assoc g (out ++ p.0) waiting) ∙ ap (λ l. l ++ waiting) (sym now) ∙ q in
-    let part : IsPrefix (out ++ p.0) all = (waiting, sym (append_cancel_left g _ _ joined)) in
-    (out ++ p.0, now, IsPrefix-through base out (out ++ p.0) b (p.0, refl), IsPrefix-through (out ++ p.0) all x part r)
-
-pub written_on : (g0 g1 g2 : Option (List ℕ)) (base : List ℕ) → ((out : List ℕ) × Appends g0 g1 out × IsPrefix base out) → Grows g1 g2 → (out : List ℕ) × Appends g0 g2 out × IsPrefix base out
-written_on g0 g1 g2 base w p = (w.0 ++ p.0, Appends-trans g0 g1 g2 w.0 p.0 w.1 p.1, IsPrefix-through base w.0 (w.0 ++ p.0) w.2 (p.0, refl))
-
-append_known-nil : (a : Option (List ℕ)) → append_known a [] ≡ a
-append_known-nil None = refl
-append_known-nil (Some xs) = ap Some (append-nil xs)
-
--- all that was put out is written
-pub all_written : (g0 g : Option (List ℕ)) (waiting all : List ℕ) → waiting ≡ [] → Appends g0 (append_known g waiting) all → Appends g0 g all
-all_written g0 g waiting all none put = subst (λ o. Appends g0 o all) (append_known-nil g) (subst (λ w. Appends g0 (append_known g w) all) none put)
-
--- a flush
-pub Progress-moved : (puts : List (List ℕ) → List ℕ) (limit : ℕ) (left left' got g1 g2 : Option (List ℕ)) (w1 w2 rest extra : List ℕ) (done last : List (List ℕ))
-    → Progress puts limit left left' got g1 w1 rest extra done last → Keeps (append_known g1 w1) (append_known g2 w2) → Grows g1 g2 → Progress puts limit left left' got g2 w2 rest extra done last
-Progress-moved puts limit left left' got g1 g2 w1 w2 rest extra done last p kept grown = record {
-  took = p.took;
-  near = p.near;
-  put = Appends-kept got (append_known g1 w1) (append_known g2 w2) (puts (done ++ last)) p.put kept;
-  written = written_on got g1 g2 (puts done) p.written grown;
-}
-
--- once nothing waits, all that was taken is written
-pub Progress-flushed : (puts : List (List ℕ) → List ℕ) (limit : ℕ) (left left' got got' : Option (List ℕ)) (waiting rest : List ℕ) (done last : List (List ℕ))
-    → Progress puts limit left left' got got' waiting rest [] done last → waiting ≡ [] → length rest ≤ 2 ^ 16 + 1 → Progress puts limit left left' got got' waiting rest [] (done ++ last) []
-Progress-flushed puts limit left left' got got' waiting rest done last p none small =
-    let same : done ++ last ≡ (done ++ last) ++ [] = sym (append-nil (done ++ last)) in
-    record {
-      took = subst (λ hs. Took left left' limit hs rest []) same p.took;
-      near = omega (arith, small);
-      put = subst (λ hs. Appends got (append_known got' waiting) (puts hs)) same p.put;
-      written = (puts (done ++ last), all_written got got' waiting _ none p.put, IsPrefix-refl (puts (done ++ last)));
-    }
-
-one_log : (packet rest rest' more : List ℕ) → rest ++ more ≡ framed packet ++ rest' → rest ++ more ≡ log_of (packet ∷ []) ++ rest'
-one_log packet rest rest' more same = same ∙ ap (λ l. l ++ rest') (sym (append-nil (framed packet)))
-
-one_record : (packet : List ℕ) → length packet < 2 ^ 16 → AreRecords (packet ∷ [])
-one_record packet small = (small, tt)
-
-near_more : (last : List (List ℕ)) (packet rest rest' more : List ℕ) → rest ++ more ≡ framed packet ++ rest' → length (log_of last ++ rest) ≤ 2 ^ 16 + 1 → 2 + length packet + length rest' ≤ 2 ^ 16 + 1
-    → (more ≡ []) ⊎ (last ≡ []) → length (log_of (last ++ packet ∷ []) ++ rest') ≤ 2 ^ 16 + 1
-near_more last packet rest rest' more same near small (inl none) =
-    let grown = moved_length last (packet ∷ []) rest rest' more (length (log_of last ++ rest)) (length (log_of last ++ rest) + length more) (one_log packet rest rest' more same) refl refl in
-    omega (arith, near, grown, ap length none)
-near_more last packet rest rest' more same near small (inr none) =
-    let alone : log_of (last ++ packet ∷ []) ≡ framed packet = ap (λ l. log_of (l ++ packet ∷ [])) none ∙ append-nil (framed packet) in
-    let size : length (log_of (last ++ packet ∷ []) ++ rest') ≡ length (framed packet ++ rest') = ap (λ l. length (l ++ rest')) alone in
-    omega (arith, size, length-append packet rest')
+-- nothing waits, and no record was handled since the last read
+pub record Idle (waiting : List ℕ) (last : List (List ℕ)) : Type 0 where
+  pub none : last ≡ []
+  pub empty : waiting ≡ []
 
 -- where a run stands before a read: a record is held, or nothing waits
-pub record Ready (puts : List (List ℕ) → List ℕ) (stands : List (List ℕ) → Type 0) (limit : ℕ) (left left' got got' : Option (List ℕ)) (waiting : List ℕ) (reader : LogReader) : Type 0 where
-  pub done : List (List ℕ)
-  pub last : List (List ℕ)
-  pub stood : stands (done ++ last)
-  pub progress : Progress puts limit left left' got got' waiting (rest reader) [] done last
-  pub size : length (log_of (done ++ last) ++ rest reader) ≡ reader.inlet.taken
-  pub ready : IsWhole (rest reader) ⊎ ((last ≡ []) × (waiting ≡ []))
+pub record Ready {H A B : Type 0} (h : handler.Ghosts H) (s : source.Ghosts A) (k : sink.Ghosts B) (first now : State H A B) : Type 0 where
+  pub under : Underway h s k first now
+  pub room : IsWhole (rest now.reader) ⊎ Idle now.sink.gather.now.waiting under.last
 
-pub ready_of : (puts : List (List ℕ) → List ℕ) (stands : List (List ℕ) → Type 0) (limit : ℕ) (left left' got g1 g2 : Option (List ℕ)) (w1 w2 : List ℕ) (reader : LogReader) (done last : List (List ℕ))
-    → stands (done ++ last) → Progress puts limit left left' got g1 w1 (rest reader) [] done last → length (log_of (done ++ last) ++ rest reader) ≡ reader.inlet.taken
-    → Keeps (append_known g1 w1) (append_known g2 w2) → Grows g1 g2 → IsWhole (rest reader) ⊎ (w2 ≡ []) → length (rest reader) ≤ 2 ^ 16 + 1 → Ready puts stands limit left left' got g2 w2 reader
-ready_of puts stands limit left left' got g1 g2 w1 w2 reader done last stood p size kept grown (inl whole) small = record {
-  done = done;
-  last = last;
-  stood = stood;
-  progress = Progress-moved puts limit left left' got g1 g2 w1 w2 (rest reader) [] done last p kept grown;
-  size = size;
-  ready = inl whole;
-}
-ready_of puts stands limit left left' got g1 g2 w1 w2 reader done last stood p size kept grown (inr none) small =
-    let same : done ++ last ≡ (done ++ last) ++ [] = sym (append-nil (done ++ last)) in
-    record {
-      done = done ++ last;
-      last = [];
-      stood = subst stands same stood;
-      progress = Progress-flushed puts limit left left' got g2 w2 (rest reader) done last (Progress-moved puts limit left left' got g1 g2 w1 w2 (rest reader) [] done last p kept grown) none small;
-      size = subst (λ hs. length (log_of hs ++ rest reader) ≡ reader.inlet.taken) same size;
-      ready = inr (refl, none);
-    }
-
--- the record that came was held, or nothing was waiting
-near_turn : (old : LogReader) (more : List ℕ) (last : List (List ℕ)) (waiting : List ℕ) → IsWhole (rest old) ⊎ ((last ≡ []) × (waiting ≡ [])) → (IsWhole (rest old) → more ≡ []) → (more ≡ []) ⊎ (last ≡ [])
-near_turn old more last waiting (inl whole) held = inl (held whole)
-near_turn old more last waiting (inr none) held = inr none.0
+-- the record that came was held, or none was handled since the last read
+near_turn : (old : LogReader) (more waiting : List ℕ) (last : List (List ℕ))
+    → IsWhole (rest old) ⊎ Idle waiting last → (IsWhole (rest old) → more ≡ [])
+    → (more ≡ []) ⊎ (last ≡ [])
+near_turn old more waiting last (inl whole) held = inl (held whole)
+near_turn old more waiting last (inr idle) held = inr idle.none
 
 -- no record was held where none is whole after the read
-stopped : (old : LogReader) (more rest' : List ℕ) (last : List (List ℕ)) (waiting : List ℕ) → IsWhole (rest old) ⊎ ((last ≡ []) × (waiting ≡ [])) → (IsWhole (rest old) → more ≡ []) → rest old ++ more ≡ rest' → IsPartial rest' → waiting ≡ []
-stopped old more rest' last waiting (inl whole) held same part =
-    let is : rest old ≡ rest' = sym (append-nil (rest old)) ∙ ap (λ m. rest old ++ m) (sym (held whole)) ∙ same in
+none_held : (old : LogReader) (more rest' waiting : List ℕ) (last : List (List ℕ))
+    → IsWhole (rest old) ⊎ Idle waiting last → (IsWhole (rest old) → more ≡ [])
+    → rest old ++ more ≡ rest' → IsPartial rest' → waiting ≡ []
+none_held old more rest' waiting last (inl whole) held same part =
+    let is : rest old ≡ rest' =
+    sym (append-nil (rest old)) ∙ ap (λ m. rest old ++ m) (sym (held whole)) ∙ same in
     let there : IsWhole rest' = subst IsWhole is whole in
     absurd (partial_not_whole rest' part there)
-stopped old more rest' last waiting (inr none) held same part = none.1
+none_held old more rest' waiting last (inr idle) held same part = idle.empty
 
--- where a run stands after a record was taken
-pub taken_turn : (puts : List (List ℕ) → List ℕ) (stands stands' : List (List ℕ) → Type 0) (limit : ℕ) (left0 left left' got0 got got' : Option (List ℕ)) (w w' : List ℕ) (old new : LogReader)
-    → Ready puts stands limit left0 left got0 got w old → new.inlet.taken ≤ limit → Grows got got' → Turned puts stands stands' left left' old new got got' w w' Taken
-    → (done : List (List ℕ)) × (last : List (List ℕ)) × stands' (done ++ last) × Progress puts limit left0 left' got0 got' w' (rest new) [] done last × (length (log_of (done ++ last) ++ rest new) ≡ new.inlet.taken)
-taken_turn puts stands stands' limit left0 left left' got0 got got' w w' old new r within grown t =
-    let hs : List (List ℕ) = r.done ++ r.last in
-    let p : List ℕ = t.0 in
-    let more : List ℕ = t.1 in
-    let same : rest old ++ more ≡ log_of (p ∷ []) ++ rest new = one_log p (rest old) (rest new) more t.3.1 in
-    let step = t.4 hs r.stood in
-    let joined : hs ++ p ∷ [] ≡ r.done ++ (r.last ++ p ∷ []) = append_assoc r.done r.last (p ∷ []) in
-    let size : length (log_of (hs ++ p ∷ []) ++ rest new) ≡ new.inlet.taken = moved_length hs (p ∷ []) (rest old) (rest new) more old.inlet.taken new.inlet.taken same r.size t.2.taken in
-    let took : Took left0 left' limit (hs ++ p ∷ []) (rest new) [] = Took-more left0 left left' limit hs (p ∷ []) (rest old) (rest new) more [] r.progress.took
-    (subst (Consumes left left') (sym (append-nil more)) t.3.0) same (one_record p t.3.2) (omega (arith, size, within)) in
-    let put : Appends got0 (append_known got' w') (puts (hs ++ p ∷ [])) =
-    subst (Appends got0 (append_known got' w')) (sym step.1.2) (Appends-trans got0 (append_known got w) (append_known got' w') (puts hs) step.1.0 r.progress.put step.1.1) in (
-      r.done,
-      r.last ++ p ∷ [],
-      subst stands' joined step.0,
+-- all that is written stays so
+wrote_on : {B : Type 0} (k : sink.Ghosts B) (s0 s1 s2 : GatherSink B) (octets : List ℕ)
+    → Wrote (sent k s0 s1) octets → Grows (k.got s1.output.now) (k.got s2.output.now)
+    → Wrote (sent k s0 s2) octets
+wrote_on k s0 s1 s2 octets w p = record {
+  out = w.out ++ p.0;
+  put = Appends-trans (k.got s0.output.now) (k.got s1.output.now) (k.got s2.output.now) w.out p.0 w.put p.1;
+  begins = prefix_through octets w.out (w.out ++ p.0) w.begins (p.0, refl);
+}
+
+-- a record in the place of one that stands elsewhere
+joined : (done last : List (List ℕ)) (p : List ℕ) → (done ++ last) ++ p ∷ [] ≡ done ++ (last ++ p ∷ [])
+joined done last p = append_assoc done last (p ∷ [])
+
+module _ {H A B : Type 0} (h : handler.Ghosts H) (s : source.Ghosts A) (k : sink.Ghosts B) where
+  -- a write of what waits, whole or in part
+  moved_on : (first now : State H A B) (to : GatherSink B) → Underway h s k first now
+      → Keeps (logical k.got now.sink) (logical k.got to)
+      → Grows (k.got now.sink.output.now) (k.got to.output.now)
+      → Underway h s k first (state now.handler now.reader now.input to)
+  moved_on first now to u kept grown =
+      let got : Option (List ℕ) = k.got first.sink.output.now in
+      let p = u.progress in
+      let all : List ℕ = (h.job first.handler).early (u.done ++ u.last) in
       record {
-        took = subst (λ h. Took left0 left' limit h (rest new) []) joined took;
-        near = omega (arith, near_more r.last p (rest old) (rest new) more t.3.1 (omega (arith, r.progress.near)) t.3.3 (near_turn old more r.last w r.ready t.2.held));
-        put = subst (λ h. Appends got0 (append_known got' w') (puts h)) joined put;
-        written = written_on got0 got got' (puts r.done) r.progress.written grown;
-      },
-      subst (λ h. length (log_of h ++ rest new) ≡ new.inlet.taken) joined size,
-    )
+        done = u.done;
+        last = u.last;
+        stood = u.stood;
+        progress = record {
+          took = p.took;
+          near = p.near;
+          put = Appends-kept got (logical k.got now.sink) (logical k.got to) all p.put kept;
+          written = wrote_on k first.sink now.sink to _ p.written grown;
+        };
+        size = u.size;
+      }
 
--- where a run stands after a write failed
-pub broken_turn : (puts ends : List (List ℕ) → List ℕ) (stands stands' : List (List ℕ) → Type 0) (limit : ℕ) (left0 left left' got0 got got' : Option (List ℕ)) (w w' : List ℕ) (old new : LogReader)
-    → ((hs more : List (List ℕ)) → IsPrefix (puts hs) (puts (hs ++ more)))
-    → Ready puts stands limit left0 left got0 got w old → new.inlet.taken ≤ limit → Grows got got' → Turned puts stands stands' left left' old new got got' w w' WriteFault
-    → Broke puts ends limit left0 left' got0 got'
-broken_turn puts ends stands stands' limit left0 left left' got0 got got' w w' old new grow r within grown t =
-    let hs : List (List ℕ) = r.done ++ r.last in
-    let p : List ℕ = t.0 in
-    let more : List ℕ = t.1 in
-    let same : rest old ++ more ≡ log_of (p ∷ []) ++ rest new = one_log p (rest old) (rest new) more t.3.1 in
-    let part = t.4 hs r.stood in
-    let joined : hs ++ p ∷ [] ≡ r.done ++ (r.last ++ p ∷ []) = append_assoc r.done r.last (p ∷ []) in
-    let size : length (log_of (hs ++ p ∷ []) ++ rest new) ≡ new.inlet.taken = moved_length hs (p ∷ []) (rest old) (rest new) more old.inlet.taken new.inlet.taken same r.size t.2.taken in
-    let took : Took left0 left' limit (hs ++ p ∷ []) (rest new) [] = Took-more left0 left left' limit hs (p ∷ []) (rest old) (rest new) more [] r.progress.took
-    (subst (Consumes left left') (sym (append-nil more)) t.3.0) same (one_record p t.3.2) (omega (arith, size, within)) in
-    let whole : List ℕ = puts (r.done ++ (r.last ++ p ∷ [])) in
-    let put : Appends got0 (append_known got' w') (puts hs ++ part.0) = Appends-trans got0 (append_known got w) (append_known got' w') (puts hs) part.0 r.progress.put part.1 in
-    let out = out_within got0 got got' w' (puts r.done) (puts hs ++ part.0) whole r.progress.written.0 r.progress.written.1 r.progress.written.2 grown put
-    (subst (λ h. IsPrefix (puts hs ++ part.0) (puts h)) joined part.2) (grow r.done (r.last ++ p ∷ [])) in
-    record {
-      done = r.done;
-      last = r.last ++ p ∷ [];
-      rest = rest new;
-      extra = [];
-      out = out.0;
-      took = subst (λ h. Took left0 left' limit h (rest new) []) joined took;
-      near = omega (arith, near_more r.last p (rest old) (rest new) more t.3.1 (omega (arith, r.progress.near)) t.3.3 (near_turn old more r.last w r.ready t.2.held));
-      put = out.1;
-      most = λ _. out.2;
-      part = inl out.3;
-    }
+  -- once nothing waits, all is written that was handled
+  flushed : (first now : State H A B) → (u : Underway h s k first now)
+      → now.sink.gather.now.waiting ≡ [] → Ready h s k first now
+  flushed first now u none =
+      let job : RecordsJob = h.job first.handler in
+      let limit : ℕ = limit_of first.reader in
+      let got : Option (List ℕ) = k.got first.sink.output.now in
+      let got' : Option (List ℕ) = k.got now.sink.output.now in
+      let waiting : List ℕ = now.sink.gather.now.waiting in
+      let left : List ℕ = rest now.reader in
+      let p = u.progress in
+      let hs : List (List ℕ) = u.done ++ u.last in
+      let same : hs ≡ hs ++ [] = sym (append-nil hs) in
+      let under : Underway h s k first now = record {
+        done = hs;
+        last = [];
+        stood = subst (h.stands now.handler) same u.stood;
+        progress = record {
+          took = subst (λ l. Took limit (read_from s first.input now.input) l left []) same p.took;
+          near = omega (arith, p.near, length-append (log_of u.last) left);
+          put = subst (λ l. Appends got (append_known got' waiting) (job.early l)) same p.put;
+          written = record {
+            out = job.early hs;
+            put = all_written got got' waiting (job.early hs) none p.put;
+            begins = prefix_refl (job.early hs);
+          };
+        };
+        size = subst (λ l. length (log_of l ++ left) ≡ taken_of now.reader) same u.size;
+      } in
+      record { under = under; room = inr record { none = refl; empty = none } }
 
-exhausted : (a b : Option (List ℕ)) (front more : List ℕ) → Consumes a b front → Exhausts b more → Exhausts a (front ++ more)
-exhausted None b front more took all = _
-exhausted (Some x) None front more took all = absurd took
-exhausted (Some x) (Some y) front more took all = took ∙ ap (λ l. front ++ l) all
+  -- where a run stands before a read
+  pub ready_of : (first now : State H A B) (to : GatherSink B) → Underway h s k first now
+      → Keeps (logical k.got now.sink) (logical k.got to)
+      → Grows (k.got now.sink.output.now) (k.got to.output.now)
+      → IsWhole (rest now.reader) ⊎ (to.gather.now.waiting ≡ [])
+      → Ready h s k first (state now.handler now.reader now.input to)
+  ready_of first now to u kept grown (inl whole) =
+      record { under = moved_on first now to u kept grown; room = inl whole }
+  ready_of first now to u kept grown (inr none) =
+      flushed first (state now.handler now.reader now.input to) (moved_on first now to u kept grown) none
 
-all_read : (left0 left : Option (List ℕ)) (limit : ℕ) (hs : List (List ℕ)) (rest rest' more : List ℕ) → Took left0 left limit hs rest [] → rest ++ more ≡ rest' → Exhausts left more → Exhausts left0 (log_of hs ++ rest')
-all_read left0 left limit hs rest rest' more took same all =
-    let before : Consumes left0 left (log_of hs ++ rest) = subst (Consumes left0 left) (append-nil (log_of hs ++ rest)) took.consumed in
-    subst (Exhausts left0) (append_assoc (log_of hs) rest more ∙ ap (λ l. log_of hs ++ l) same) (exhausted left0 left (log_of hs ++ rest) more before all)
+  -- how many octets the records and the rest have, once one came
+  size_after : (first now next : State H A B) (packet more : List ℕ) → (u : Underway h s k first now)
+      → Brought (read_from s now.input next.input) now.reader next.reader packet more
+      → length (log_of ((u.done ++ u.last) ++ packet ∷ []) ++ rest next.reader) ≡ taken_of next.reader
+  size_after first now next packet more u b =
+      let joins = one_log packet (rest now.reader) (rest next.reader) more b.joins in
+      moved_length (u.done ++ u.last) (packet ∷ []) (rest now.reader) (rest next.reader) more
+      (taken_of now.reader) (taken_of next.reader) joins u.size b.went.taken
 
--- where a run stands that stopped
-halt_turn : (puts : List (List ℕ) → List ℕ) (stands stands' : List (List ℕ) → Type 0) (limit : ℕ) (left0 left left' got0 got got' : Option (List ℕ)) (w w' more extra : List ℕ) (old new : LogReader)
-    → (r : Ready puts stands limit left0 left got0 got w old) → new.inlet.taken ≤ limit → Went old new more → Consumes left left' (more ++ extra) → Stops more old new → length extra ≤ 1
-    → ((hs : List (List ℕ)) → stands hs → stands' hs) → got' ≡ got → w' ≡ w
-    → Halt puts stands' limit left0 left' got0 got' (rest new) extra (r.done ++ r.last) × (length (log_of (r.done ++ r.last) ++ rest new) ≡ new.inlet.taken) × (w' ≡ [])
-halt_turn puts stands stands' limit left0 left left' got0 got got' w w' more extra old new r within went took stops small stood same_got same_w =
-    let hs : List (List ℕ) = r.done ++ r.last in
-    let size' = moved_length hs [] (rest old) (rest new) more old.inlet.taken new.inlet.taken stops.0 r.size went.taken in
-    let took' = Took-more left0 left left' limit hs [] (rest old) (rest new) more extra r.progress.took took stops.0 tt (omega (arith, size', within)) in
-    let none : w ≡ [] = stopped old more (rest new) r.last w r.ready went.held stops.0 stops.1 in (
+  -- what was read, once a record came
+  took_after : (first now next : State H A B) (packet more : List ℕ) → (u : Underway h s k first now)
+      → limit_of now.reader ≡ limit_of first.reader
+      → Brought (read_from s now.input next.input) now.reader next.reader packet more
+      → Took (limit_of first.reader) (read_from s first.input next.input) (u.done ++ (u.last ++ packet ∷ [])) (rest next.reader) []
+  took_after first now next packet more u same_limit b =
+      let hs : List (List ℕ) = u.done ++ u.last in
+      let limit : ℕ = limit_of first.reader in
+      let left : List ℕ = rest next.reader in
+      let joins = one_log packet (rest now.reader) left more b.joins in
+      let size = size_after first now next packet more u b in
+      let within : length (log_of (hs ++ packet ∷ []) ++ left) ≤ limit =
+      omega (arith, size, b.went.within, b.went.limit, same_limit) in
+      let took = took_more s first.input now.input next.input limit hs (packet ∷ []) (rest now.reader) left more []
+      u.progress.took b.went.took joins (one_record packet b.short) within in
+      subst (λ l. Took limit (read_from s first.input next.input) l left []) (joined u.done u.last packet) took
+
+  -- what was handled since the last read, and what is left, were held then
+  near_after : (first now next : State H A B) (packet more : List ℕ) → (r : Ready h s k first now)
+      → Brought (read_from s now.input next.input) now.reader next.reader packet more
+      → length (log_of (r.under.last ++ packet ∷ []) ++ rest next.reader) ≤ MOST_HELD
+  near_after first now next packet more r b =
+      let came = near_turn now.reader more now.sink.gather.now.waiting r.under.last r.room b.went.held in
+      near_more r.under.last packet (rest now.reader) (rest next.reader) more b.joins r.under.progress.near b.near came
+
+  -- where a run stands after a record was handled
+  pub handled_turn : (first now next : State H A B) → Ready h s k first now
+      → h.job now.handler ≡ h.job first.handler → limit_of now.reader ≡ limit_of first.reader
+      → Grows (k.got now.sink.output.now) (k.got next.sink.output.now)
+      → Handled h s k now next → Underway h s k first next
+  handled_turn first now next r same_job same_limit grown t =
+      let u = r.under in
+      let job : RecordsJob = h.job first.handler in
+      let got : Option (List ℕ) = k.got first.sink.output.now in
+      let out : Option (List ℕ) = logical k.got now.sink in
+      let out' : Option (List ℕ) = logical k.got next.sink in
+      let hs : List (List ℕ) = u.done ++ u.last in
+      let ps : List (List ℕ) = t.packet ∷ [] in
+      let is : hs ++ ps ≡ u.done ++ (u.last ++ ps) = joined u.done u.last t.packet in
+      let step = t.each hs u.stood in
+      let puts : Puts out out' (job.early hs) (job.early (hs ++ ps)) =
+      subst (λ (j : RecordsJob). Puts out out' (j.early hs) (j.early (hs ++ ps))) same_job step.1 in
+      let more = Appends-trans got out out' (job.early hs) puts.more u.progress.put puts.put in
+      let put : Appends got out' (job.early (hs ++ ps)) = subst (Appends got out') (sym puts.grown) more in
+      let size = size_after first now next t.packet t.more u t.brought in
       record {
-        stood = stood hs r.stood;
-        took = subst (λ h. Took left0 left' limit h (rest new) extra) (append-nil hs) took';
-        near = omega (arith, stops.2, small);
-        put = subst (λ o. Appends got0 o (puts hs)) (sym same_got) (all_written got0 got w (puts hs) none r.progress.put);
-        partial = stops.1;
-      },
-      subst (λ h. length (log_of h ++ rest new) ≡ new.inlet.taken) (append-nil hs) size',
-      same_w ∙ none,
-    )
+        done = u.done;
+        last = u.last ++ ps;
+        stood = subst (h.stands next.handler) is step.0;
+        progress = record {
+          took = took_after first now next t.packet t.more u same_limit t.brought;
+          near = near_after first now next t.packet t.more r t.brought;
+          put = subst (λ l. Appends got out' (job.early l)) is put;
+          written = wrote_on k first.sink now.sink next.sink (job.early u.done) u.progress.written grown;
+        };
+        size = subst (λ l. length (log_of l ++ rest next.reader) ≡ taken_of next.reader) is size;
+      }
 
-pub after_turn : (puts ends : List (List ℕ) → List ℕ) (stands stands' : List (List ℕ) → Type 0) (limit : ℕ) (left0 left left' got0 got got' : Option (List ℕ)) (w w' : List ℕ) (old new : LogReader) (turn : Turn)
-    → ((hs more : List (List ℕ)) → IsPrefix (puts hs) (puts (hs ++ more)))
-    → Ready puts stands limit left0 left got0 got w old → new.inlet.taken ≤ limit → new.inlet.limit ≡ limit → Grows got got' → Turned puts stands stands' left left' old new got got' w w' turn
-    → After puts ends stands' limit left0 left' got0 got' w' (rest new) turn
-after_turn puts ends stands stands' limit left0 left left' got0 got got' w w' old new Taken grow r within same grown t =
-    let after = taken_turn puts stands stands' limit left0 left left' got0 got got' w w' old new r within grown t in (after.0, after.1, after.2, after.3)
-after_turn puts ends stands stands' limit left0 left left' got0 got got' w w' old new WriteFault grow r within same grown t =
-    broken_turn puts ends stands stands' limit left0 left left' got0 got got' w w' old new grow r within grown t
-after_turn puts ends stands stands' limit left0 left left' got0 got got' w w' old new End grow r within same grown t =
-    let halt = halt_turn puts stands stands' limit left0 left left' got0 got got' w w' t.0 [] old new r within t.1 (subst (Consumes left left') (sym (append-nil t.0)) t.2) t.3 (omega arith) t.6 t.7 t.8 in
-    (r.done ++ r.last, halt.0, all_read left0 left limit (r.done ++ r.last) (rest old) (rest new) t.0 r.progress.took t.3.0 t.4, t.5, halt.2)
-after_turn puts ends stands stands' limit left0 left left' got0 got got' w w' old new (Truncated have) grow r within same grown t =
-    let halt = halt_turn puts stands stands' limit left0 left left' got0 got got' w w' t.0 [] old new r within t.1 (subst (Consumes left left') (sym (append-nil t.0)) t.2) t.3 (omega arith) t.7 t.8 t.9 in
-    (r.done ++ r.last, halt.0, all_read left0 left limit (r.done ++ r.last) (rest old) (rest new) t.0 r.progress.took t.3.0 t.4, t.5, t.6, halt.2)
-after_turn puts ends stands stands' limit left0 left left' got0 got got' w w' old new OverLimit grow r within same grown t =
-    let halt = halt_turn puts stands stands' limit left0 left left' got0 got got' w w' t.0 (t.1 ∷ []) old new r within t.2 t.3 t.4 (omega arith) t.6 t.7 t.8 in
-    (r.done ++ r.last, t.1, halt.0, halt.1 ∙ t.5 ∙ same, halt.2)
-after_turn puts ends stands stands' limit left0 left left' got0 got got' w w' old new ReadFault grow r within same grown t =
-    let halt = halt_turn puts stands stands' limit left0 left left' got0 got got' w w' t.0 [] old new r within t.1 (subst (Consumes left left') (sym (append-nil t.0)) t.2) t.3 (omega arith) t.4 t.5 t.6 in
-    (r.done ++ r.last, halt.0)
+  -- where a run stands after a write failed while a record was handled
+  pub broken_turn : (first now next : State H A B) → Grow (h.job first.handler)
+      → Ready h s k first now → h.job now.handler ≡ h.job first.handler
+      → limit_of now.reader ≡ limit_of first.reader
+      → Grows (k.got now.sink.output.now) (k.got next.sink.output.now) → HandledPart h s k now next
+      → Broke (h.job first.handler) (limit_of first.reader) (read_from s first.input next.input) (sent k first.sink next.sink)
+  broken_turn first now next grow r same_job same_limit grown t =
+      let u = r.under in
+      let job : RecordsJob = h.job first.handler in
+      let got : Option (List ℕ) = k.got first.sink.output.now in
+      let out : Option (List ℕ) = logical k.got now.sink in
+      let out' : Option (List ℕ) = logical k.got next.sink in
+      let hs : List (List ℕ) = u.done ++ u.last in
+      let ps : List (List ℕ) = t.packet ∷ [] in
+      let is : hs ++ ps ≡ u.done ++ (u.last ++ ps) = joined u.done u.last t.packet in
+      let puts : PutsPart out out' (job.early hs) (job.early (hs ++ ps)) =
+      subst (λ (j : RecordsJob). PutsPart out out' (j.early hs) (j.early (hs ++ ps))) same_job (t.each hs u.stood) in
+      let put : Appends got out' (job.early hs ++ puts.part) =
+      Appends-trans got out out' (job.early hs) puts.part u.progress.put puts.put in
+      let whole : IsPrefix (job.early hs ++ puts.part) (job.early (u.done ++ (u.last ++ ps))) =
+      subst (λ l. IsPrefix (job.early hs ++ puts.part) (job.early l)) is puts.within in
+      let w = u.progress.written in
+      let all = out_within got (k.got now.sink.output.now) (k.got next.sink.output.now) next.sink.gather.now.waiting
+      (job.early u.done) (job.early hs ++ puts.part) (job.early (u.done ++ (u.last ++ ps)))
+      w.out w.put w.begins grown put whole (grow u.done (u.last ++ ps)) in
+      record {
+        done = u.done;
+        last = u.last ++ ps;
+        rest = rest next.reader;
+        extra = [];
+        out = all.out;
+        took = took_after first now next t.packet t.more u same_limit t.brought;
+        near = omega (arith, near_after first now next t.packet t.more r t.brought);
+        put = all.put;
+        most = λ _. all.begins;
+        part = inl all.within;
+      }
 
--- a run that broke before the first record
-pub begin_broken : (puts ends : List (List ℕ) → List ℕ) (limit : ℕ) (left got got' : Option (List ℕ)) (w w' : List ℕ) → w ≡ [] → PutsPart (append_known got w) (append_known got' w') [] (puts []) → Grows got got' → Broke puts ends limit left left got got'
-begin_broken puts ends limit left got got' w w' none part grown =
-    let whole : append_known got w ≡ got = ap (λ l. append_known got l) none ∙ append_known-nil got in
-    let put : Appends got (append_known got' w') part.0 = subst (λ o. Appends o (append_known got' w') part.0) whole part.1 in
-    let out = out_within got got got' w' [] part.0 (puts []) [] (Appends-nil got) (IsPrefix-refl []) grown put part.2 (puts [], refl) in
-    record {
-      done = [];
-      last = [];
-      rest = [];
-      extra = [];
-      out = out.0;
-      took = record { consumed = Consumes-nil left; records = tt; within = omega arith };
-      near = omega arith;
-      put = out.1;
-      most = λ some. absurd (some refl);
-      part = inl out.3;
-    }
+  -- where a run stands that stopped
+  pub halted_turn : (first now next : State H A B) (how : RunEnd) → Ready h s k first now
+      → limit_of now.reader ≡ limit_of first.reader → Missed s now next how → Halted h s k first next how
+  halted_turn first now next how r same_limit m =
+      let u = r.under in
+      let job : RecordsJob = h.job first.handler in
+      let limit : ℕ = limit_of first.reader in
+      let got : Option (List ℕ) = k.got first.sink.output.now in
+      let waiting : List ℕ = now.sink.gather.now.waiting in
+      let left : List ℕ = rest next.reader in
+      let hs : List (List ℕ) = u.done ++ u.last in
+      let same : hs ++ [] ≡ hs = append-nil hs in
+      let none : waiting ≡ [] =
+      none_held now.reader m.more left waiting u.last r.room m.went.held m.joins m.partial in
+      let grown = moved_length hs [] (rest now.reader) left m.more (taken_of now.reader) (taken_of next.reader) m.joins u.size m.went.taken in
+      let size : length (log_of hs ++ left) ≡ taken_of next.reader =
+      subst (λ l. length (log_of l ++ left) ≡ taken_of next.reader) same grown in
+      let limits : limit_of next.reader ≡ limit = m.went.limit ∙ same_limit in
+      let within : length (log_of (hs ++ []) ++ left) ≤ limit = omega (arith, grown, m.went.within, limits) in
+      let took = took_more s first.input now.input next.input limit hs [] (rest now.reader) left m.more m.extra
+      u.progress.took m.went.took m.joins tt within in
+      let on = all_read s first.input now.input limit hs (rest now.reader) left m.more u.progress.took m.joins in
+      let put : Appends got (k.got now.sink.output.now) (job.early hs) =
+      all_written got (k.got now.sink.output.now) waiting (job.early hs) none u.progress.put in
+      record {
+        packets = hs;
+        extra = m.extra;
+        stopped = record {
+          took = subst (λ l. Took limit (read_from s first.input next.input) l left m.extra) same took;
+          partial = m.partial;
+          near = m.near;
+          why = why_on how (s.left first.input) (s.left now.input) (log_of hs ++ left) m.more left m.extra
+          (taken_of next.reader) limit (limit_of next.reader) on size limits m.why;
+        };
+        stood = subst (λ (x : H). h.stands x hs) (sym m.idle) u.stood;
+        put = subst (λ (x : GatherSink B). Appends got (k.got x.output.now) (job.early hs)) (sym m.still) put;
+        empty = ap (λ (x : GatherSink B). x.gather.now.waiting) m.still ∙ none;
+      }
 
--- a run that broke between two records
-pub way_broken : (puts ends : List (List ℕ) → List ℕ) (limit : ℕ) (left left' got g1 g2 : Option (List ℕ)) (w1 w2 rest : List ℕ) (done last : List (List ℕ))
-    → ((hs more : List (List ℕ)) → IsPrefix (puts hs) (puts (hs ++ more)))
-    → Progress puts limit left left' got g1 w1 rest [] done last → Keeps (append_known g1 w1) (append_known g2 w2) → Grows g1 g2 → Broke puts ends limit left left' got g2
-way_broken puts ends limit left left' got g1 g2 w1 w2 rest done last grow p kept grown =
-    let moved = Progress-moved puts limit left left' got g1 g2 w1 w2 rest [] done last p kept grown in
-    let out = out_within got g2 g2 w2 (puts done) (puts (done ++ last)) (puts (done ++ last)) moved.written.0 moved.written.1 moved.written.2 ([], Appends-nil g2) moved.put (IsPrefix-refl (puts (done ++ last))) (grow done last) in
-    record {
-      done = done;
-      last = last;
-      rest = rest;
-      extra = [];
-      out = out.0;
-      took = moved.took;
-      near = moved.near;
-      put = out.1;
-      most = λ _. out.2;
-      part = inl out.3;
-    }
+  -- a run that broke before the first record
+  pub begin_broken : (first : State H A B) (to : GatherSink B)
+      → first.sink.gather.now.waiting ≡ []
+      → PutsPart (logical k.got first.sink) (logical k.got to) [] ((h.job first.handler).early [])
+      → Grows (k.got first.sink.output.now) (k.got to.output.now)
+      → Broke (h.job first.handler) (limit_of first.reader) (read_from s first.input first.input) (sent k first.sink to)
+  begin_broken first to none part grown =
+      let job : RecordsJob = h.job first.handler in
+      let got : Option (List ℕ) = k.got first.sink.output.now in
+      let before : logical k.got first.sink ≡ got = none_waits got first.sink.gather.now.waiting none in
+      let put : Appends got (logical k.got to) part.part =
+      subst (λ o. Appends o (logical k.got to) part.part) before part.put in
+      let out = out_within got got (k.got to.output.now) to.gather.now.waiting [] part.part (job.early []) []
+      (Appends-nil got) (prefix_refl []) grown put part.within (job.early [], refl) in
+      record {
+        done = [];
+        last = [];
+        rest = [];
+        extra = [];
+        out = out.out;
+        took = record { consumed = Consumes-nil (s.left first.input); records = tt; within = omega arith };
+        near = omega arith;
+        put = out.put;
+        most = λ some. absurd (some refl);
+        part = inl out.within;
+      }
 
--- where a run stands before the first record
-pub Progress-first : (puts : List (List ℕ) → List ℕ) (limit : ℕ) (left got got' : Option (List ℕ)) (w w' rest : List ℕ) → w ≡ [] → w' ≡ [] → rest ≡ [] → Appends (append_known got w) (append_known got' w') (puts [])
-    → Progress puts limit left left got got' w' rest [] [] []
-Progress-first puts limit left got got' w w' rest none none' empty put =
-    let whole : append_known got w ≡ got = ap (λ l. append_known got l) none ∙ append_known-nil got in
-    let put' : Appends got (append_known got' w') (puts []) = subst (λ o. Appends o (append_known got' w') (puts [])) whole put in
-    let size : length rest ≡ 0 = ap length empty in
-    record {
-      took = record { consumed = subst (λ l. Consumes left left (l ++ [])) (sym empty) (Consumes-nil left); records = tt; within = omega arith };
-      near = omega arith;
-      put = put';
-      written = (puts [], all_written got got' w' (puts []) none' put', IsPrefix-refl (puts []));
-    }
+  -- a run that broke between two records
+  pub way_broken : (first now : State H A B) (to : GatherSink B) → Grow (h.job first.handler)
+      → Underway h s k first now → Keeps (logical k.got now.sink) (logical k.got to)
+      → Grows (k.got now.sink.output.now) (k.got to.output.now)
+      → Broke (h.job first.handler) (limit_of first.reader) (read_from s first.input now.input) (sent k first.sink to)
+  way_broken first now to grow u kept grown =
+      let job : RecordsJob = h.job first.handler in
+      let got : Option (List ℕ) = k.got first.sink.output.now in
+      let got' : Option (List ℕ) = k.got to.output.now in
+      let w = wrote_on k first.sink now.sink to (job.early u.done) u.progress.written grown in
+      let all : List ℕ = job.early (u.done ++ u.last) in
+      let put = Appends-kept got (logical k.got now.sink) (logical k.got to) all u.progress.put kept in
+      let out = out_within got got' got' to.gather.now.waiting (job.early u.done) all all
+      w.out w.put w.begins ([], Appends-nil got') put (prefix_refl all) (grow u.done u.last) in
+      record {
+        done = u.done;
+        last = u.last;
+        rest = rest now.reader;
+        extra = [];
+        out = out.out;
+        took = u.progress.took;
+        near = omega (arith, u.progress.near);
+        put = out.put;
+        most = λ _. out.begins;
+        part = inl out.within;
+      }
 
-pub faults_from : (turn : Turn) (i0 i i' o0 o o' : ℕ) → i ≡ i0 → o ≡ o0 → TurnFaults turn i i' o o' → TurnFaults turn i0 i' o0 o'
-faults_from turn i0 i i' o0 o o' ei eo f = subst (λ m. TurnFaults turn m i' o0 o') ei (subst (λ m. TurnFaults turn i i' m o') eo f)
-
-pub turn_size : (packet rest rest' more : List ℕ) → rest ++ more ≡ framed packet ++ rest' → length rest + length more ≡ 2 + length packet + length rest'
-turn_size packet rest rest' more same = omega (arith, sym (length-append rest more), ap length same, length-append packet rest')
-
-pub limit_kept : (puts : List (List ℕ) → List ℕ) (stands stands' : List (List ℕ) → Type 0) (left left' got got' : Option (List ℕ)) (w w' : List ℕ) (old new : LogReader) (turn : Turn)
-    → Turned puts stands stands' left left' old new got got' w w' turn → new.inlet.limit ≡ old.inlet.limit
-limit_kept puts stands stands' left left' got got' w w' old new Taken t = t.2.limit
-limit_kept puts stands stands' left left' got got' w w' old new WriteFault t = t.2.limit
-limit_kept puts stands stands' left left' got got' w w' old new End t = t.1.limit
-limit_kept puts stands stands' left left' got got' w w' old new (Truncated have) t = t.1.limit
-limit_kept puts stands stands' left left' got got' w w' old new OverLimit t = t.2.limit
-limit_kept puts stands stands' left left' got got' w w' old new ReadFault t = t.1.limit
-
--- what was put out in all, once a run was closed
-pub closed_put : (puts ends puts' ends' : List (List ℕ) → List ℕ) (stands closed : List (List ℕ) → Type 0) (limit : ℕ) (left left' got0 got got' : Option (List ℕ)) (w w' rest extra : List ℕ) (packets : List (List ℕ))
-    → Halt puts stands limit left left' got0 got rest extra packets → w ≡ [] → puts' ≡ puts → ends' ≡ ends → w' ≡ []
-    → ((hs : List (List ℕ)) → stands hs → closed hs × Puts (append_known got w) (append_known got' w') (puts' hs) (ends' hs)) → Appends got0 got' (ends packets) × closed packets
-closed_put puts ends puts' ends' stands closed limit left left' got0 got got' w w' rest extra packets halt none same_puts same_ends none' close =
-    let both = close packets halt.stood in
-    let put = both.1 in
-    let whole : append_known got w ≡ got = ap (λ l. append_known got l) none ∙ append_known-nil got in
-    let before : Appends got0 (append_known got w) (puts packets) = subst (λ o. Appends got0 o (puts packets)) (sym whole) halt.put in
-    let after = Appends-trans got0 (append_known got w) (append_known got' w') (puts packets) put.0 before put.1 in
-    let all : puts packets ++ put.0 ≡ ends packets = ap (λ (f : List (List ℕ) → List ℕ). f packets ++ put.0) (sym same_puts) ∙ sym put.2 ∙ ap (λ (f : List (List ℕ) → List ℕ). f packets) same_ends in
-    (all_written got0 got' w' (ends packets) none' (subst (Appends got0 (append_known got' w')) all after), both.0)
-
--- a run that broke while it was closed
-pub closed_broken : (puts ends puts' ends' : List (List ℕ) → List ℕ) (stands : List (List ℕ) → Type 0) (limit : ℕ) (left left' got0 got got' : Option (List ℕ)) (w w' rest extra : List ℕ) (packets : List (List ℕ))
-    → ((hs more : List (List ℕ)) → IsPrefix (puts hs) (ends (hs ++ more)))
-    → Halt puts stands limit left left' got0 got rest extra packets → w ≡ [] → puts' ≡ puts → ends' ≡ ends → Grows got got'
-    → ((hs : List (List ℕ)) → stands hs → PutsPart (append_known got w) (append_known got' w') (puts' hs) (ends' hs))
-    → Ended left left' limit packets rest ⊎ Passed left left' limit packets rest → Broke puts ends limit left left' got0 got'
-closed_broken puts ends puts' ends' stands limit left left' got0 got got' w w' rest extra packets grow halt none same_puts same_ends grown close end =
-    let part = close packets halt.stood in
-    let whole : append_known got w ≡ got = ap (λ l. append_known got l) none ∙ append_known-nil got in
-    let before : Appends got0 (append_known got w) (puts packets) = subst (λ o. Appends got0 o (puts packets)) (sym whole) halt.put in
-    let after = Appends-trans got0 (append_known got w) (append_known got' w') (puts packets) part.0 before part.1 in
-    let within : IsPrefix (puts packets ++ part.0) (ends packets) =
-    subst (λ (f : List (List ℕ) → List ℕ). IsPrefix (f packets ++ part.0) (ends packets)) same_puts (subst (λ (f : List (List ℕ) → List ℕ). IsPrefix (puts' packets ++ part.0) (f packets)) same_ends part.2) in
-    let all : packets ++ [] ≡ packets = append-nil packets in
-    let base : IsPrefix (puts packets) (ends packets) = subst (λ hs. IsPrefix (puts packets) (ends hs)) all (grow packets []) in
-    let out = out_within got0 got got' w' (puts packets) (puts packets ++ part.0) (ends packets) (puts packets) halt.put (IsPrefix-refl (puts packets)) grown after within base in
-    record {
-      done = packets;
-      last = [];
-      rest = rest;
-      extra = extra;
-      out = out.0;
-      took = subst (λ hs. Took left left' limit hs rest extra) (sym all) halt.took;
-      near = omega (arith, halt.near);
-      put = out.1;
-      most = λ _. out.2;
-      part = subst (λ hs. IsPrefix out.0 (puts hs) ⊎ ((Ended left left' limit hs rest ⊎ Passed left left' limit hs rest) × IsPrefix out.0 (ends hs))) (sym all) (inr (end, out.3));
-    }
+  -- where a run stands before the first record
+  pub begun : (first : State H A B) (by : H) (to : GatherSink B)
+      → first.sink.gather.now.waiting ≡ [] → to.gather.now.waiting ≡ []
+      → rest first.reader ≡ [] → taken_of first.reader ≡ 0 → h.stands by []
+      → Appends (logical k.got first.sink) (logical k.got to) ((h.job first.handler).early [])
+      → Underway h s k first (state by first.reader first.input to)
+  begun first by to none none' empty zero stood put =
+      let job : RecordsJob = h.job first.handler in
+      let got : Option (List ℕ) = k.got first.sink.output.now in
+      let left : Option (List ℕ) = s.left first.input in
+      let before : logical k.got first.sink ≡ got = none_waits got first.sink.gather.now.waiting none in
+      let all : Appends got (logical k.got to) (job.early []) =
+      subst (λ o. Appends o (logical k.got to) (job.early [])) before put in
+      let size : length (rest first.reader) ≡ 0 = ap length empty in
+      record {
+        done = [];
+        last = [];
+        stood = stood;
+        progress = record {
+          took = record {
+            consumed = subst (λ l. Consumes left left (l ++ [])) (sym empty) (Consumes-nil left);
+            records = tt;
+            within = omega arith;
+          };
+          near = omega arith;
+          put = all;
+          written = record {
+            out = job.early [];
+            put = all_written got (k.got to.output.now) to.gather.now.waiting (job.early []) none' all;
+            begins = prefix_refl (job.early []);
+          };
+        };
+        size = omega (arith, size, zero);
+      }

@@ -1,6 +1,6 @@
-pub mod Tray
-pub mod Run
-pub mod Turns
 pub mod Progress
-pub mod Told
+pub mod Puts
+pub mod Run
+pub mod Tray
+pub mod Turns
 pub use Rattle.spec_packet.specs.Log

@@ -1,66 +1,64 @@
--- What a run over a log reads and puts out, by its end (RFC 4571, 2). The ends are ours.
-use Rattle.std.specs.Prelude.{◌≡◌, ◌≢◌, ℕ, ◌+◌, ◌≤◌, ◌<◌, ◌⊎◌, List, [], ◌∷◌, ◌++◌, length, ◌^◌, Option}
+-- What a run over a log read and put out (RFC 4571, 2). The limit and the ends are ours.
+use Rattle.std.specs.Prelude.{◌≡◌, ◌≢◌, ◌⊎◌, ℕ, ◌+◌, ◌≤◌, List, [], ◌∷◌, ◌++◌, length, Option}
 use Rattle.std.specs.Io.KnownBytes.{Appends, Consumes}
-use Rattle.amr_io.specs.Fault.{Rose}
-use Rattle.spec_packet.specs.Log.{log_of, IsPartial, AreRecords}
 use Rattle.rtp_packet.specs.Reading.{Exhausts}
-use Rattle.log_engine.specs.declared.log_end.LogEnd.{LogEnd}
-use Rattle.log_engine.specs.declared.log_end.LogEnd.TheVariants.{Done, LogCut, ReadFault, WriteFault, LimitReached}
-
--- the second begins with the first
-abbrev pub IsPrefix : List ℕ → List ℕ → Type 0
-IsPrefix front whole = (more : List ℕ) × (whole ≡ front ++ more)
-
--- what was put out grew from `before` to `after`
-abbrev pub Puts : Option (List ℕ) → Option (List ℕ) → List ℕ → List ℕ → Type 0
-Puts old new before after = (more : List ℕ) × Appends old new more × (after ≡ before ++ more)
-
--- what was put out grew from `before` by a part of what `after` has more
-abbrev pub PutsPart : Option (List ℕ) → Option (List ℕ) → List ℕ → List ℕ → Type 0
-PutsPart old new before after = (part : List ℕ) × Appends old new part × IsPrefix (before ++ part) after
-
--- which count of faults rose, by the end
-abbrev pub FaultsOf : LogEnd → ℕ → ℕ → ℕ → ℕ → Type 0
-FaultsOf ReadFault i i' o o' = Rose i i' × (o' ≡ o)
-FaultsOf WriteFault i i' o o' = (i' ≡ i) × Rose o o'
-FaultsOf _ i i' o o' = (i' ≡ i) × (o' ≡ o)
+use Rattle.run_report.specs.declared.end.RunEnd.{RunEnd}
+use Rattle.run_report.specs.declared.end.RunEnd.TheVariants as end
+use Rattle.spec_packet.specs.Log.{AreRecords, IsPartial, log_of}
+use Rattle.spec_run.specs.Flows.{Flow}
+use Rattle.spec_run.specs.LogRuns.{MOST_HELD, RecordsJob, rest_end}
+use Rattle.spec_run.specs.Meanings.{IsPrefix}
 
 -- the octets read were these records and the rest, and then `extra`
-pub record Took (left left' : Option (List ℕ)) (limit : ℕ) (packets : List (List ℕ)) (rest extra : List ℕ) : Type 0 where
-  pub consumed : Consumes left left' ((log_of packets ++ rest) ++ extra)
+pub record Took (limit : ℕ) (input : Flow) (packets : List (List ℕ)) (rest extra : List ℕ) : Type 0 where
+  pub consumed : Consumes input.told input.told' ((log_of packets ++ rest) ++ extra)
   pub records : AreRecords packets
   pub within : length (log_of packets ++ rest) ≤ limit
 
--- the input ended after these records and the rest
-pub record Ended (left left' : Option (List ℕ)) (limit : ℕ) (packets : List (List ℕ)) (rest : List ℕ) : Type 0 where
-  pub took : Took left left' limit packets rest []
-  pub partial : IsPartial rest
-  pub all : Exhausts left (log_of packets ++ rest)
+-- the input ended behind these octets, and the rest of them is less than a record
+pub record Ended (told : Option (List ℕ)) (octets rest extra : List ℕ) (how : RunEnd) : Type 0 where
+  pub none : extra ≡ []
+  pub all : Exhausts told octets
+  pub is : how ≡ rest_end rest
 
--- one octet more than the limit came
-pub record Passed (left left' : Option (List ℕ)) (limit : ℕ) (packets : List (List ℕ)) (rest : List ℕ) : Type 0 where
+-- one octet came past the limit
+pub record Passed (taken limit : ℕ) (extra : List ℕ) : Type 0 where
   pub one : ℕ
-  pub took : Took left left' limit packets rest (one ∷ [])
+  pub over : extra ≡ one ∷ []
+  pub full : taken ≡ limit
+
+-- why no record came behind these octets, by the end
+abbrev pub Why : Option (List ℕ) → List ℕ → ℕ → ℕ → List ℕ → List ℕ → RunEnd → Type 0
+Why told octets taken limit rest extra end.LimitReached = Passed taken limit extra
+Why told octets taken limit rest extra end.ReadFault = extra ≡ []
+Why told octets taken limit rest extra end.WriteFault = ⊥
+Why told octets taken limit rest extra end.OutOfMemory = ⊥
+Why told octets taken limit rest extra end.Done = Ended told octets rest extra end.Done
+Why told octets taken limit rest extra (end.LogCut have) = Ended told octets rest extra (end.LogCut have)
+
+-- the records of the input are these, and `rest` is less than one more
+pub record Stopped (limit : ℕ) (input : Flow) (packets : List (List ℕ)) (rest extra : List ℕ) (how : RunEnd) : Type 0 where
+  pub took : Took limit input packets rest extra
   pub partial : IsPartial rest
-  pub full : length (log_of packets ++ rest) ≡ limit
+  pub near : length rest + length extra ≤ MOST_HELD
+  pub why : Why input.told (log_of packets ++ rest) (length (log_of packets ++ rest)) limit rest extra how
+
+-- a write failed once the input had stopped: a part of what it means is out
+pub record BrokeEnding (job : RecordsJob) (limit : ℕ) (input : Flow) (packets : List (List ℕ)) (rest extra out : List ℕ) : Type 0 where
+  pub how : RunEnd
+  pub stopped : Stopped limit input packets rest extra how
+  pub finished : how ≢ end.ReadFault
+  pub within : IsPrefix out (job.whole packets)
 
 -- a write failed: these octets went out, all that belongs to the records `done` among them
-pub record Broke (puts ends : List (List ℕ) → List ℕ) (limit : ℕ) (left left' got got' : Option (List ℕ)) : Type 0 where
+pub record Broke (job : RecordsJob) (limit : ℕ) (input output : Flow) : Type 0 where
   pub done : List (List ℕ)
   pub last : List (List ℕ)
   pub rest : List ℕ
   pub extra : List ℕ
   pub out : List ℕ
-  pub took : Took left left' limit (done ++ last) rest extra
-  pub near : length (log_of last ++ rest) + length extra ≤ 2 ^ 16 + 1
-  pub put : Appends got got' out
-  pub most : done ≢ [] → IsPrefix (puts done) out
-  pub part : IsPrefix out (puts (done ++ last)) ⊎ ((Ended left left' limit (done ++ last) rest ⊎ Passed left left' limit (done ++ last) rest) × IsPrefix out (ends (done ++ last)))
-
--- what a run did, by its end
-abbrev pub Ran : (List (List ℕ) → List ℕ) → (List (List ℕ) → List ℕ) → (List (List ℕ) → Type 0) → ℕ → Option (List ℕ) → Option (List ℕ) → Option (List ℕ) → Option (List ℕ) → LogEnd → Type 0
-Ran puts ends closed limit left left' got got' Done = (packets : List (List ℕ)) × Ended left left' limit packets [] × Appends got got' (ends packets) × closed packets
-Ran puts ends closed limit left left' got got' (LogCut have) = (packets : List (List ℕ)) × (rest : List ℕ) × Ended left left' limit packets rest × (length rest ≡ have) × (0 < have) × Appends got got' (ends packets) × closed packets
-Ran puts ends closed limit left left' got got' LimitReached = (packets : List (List ℕ)) × (rest : List ℕ) × Passed left left' limit packets rest × Appends got got' (ends packets) × closed packets
-Ran puts ends closed limit left left' got got' ReadFault = (packets : List (List ℕ)) × (rest : List ℕ) × Took left left' limit packets rest [] × IsPartial rest × Appends got got' (puts packets)
-Ran puts ends closed limit left left' got got' WriteFault = Broke puts ends limit left left' got got'
+  pub took : Took limit input (done ++ last) rest extra
+  pub near : length (log_of last ++ rest) + length extra ≤ MOST_HELD
+  pub put : Appends output.told output.told' out
+  pub most : done ≢ [] → IsPrefix (job.early done) out
+  pub part : IsPrefix out (job.early (done ++ last)) ⊎ BrokeEnding job limit input (done ++ last) rest extra out

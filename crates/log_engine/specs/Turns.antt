@@ -1,39 +1,104 @@
--- What came of a turn of a run. It is ours.
-use Rattle.std.specs.Prelude.{◌≡◌, ℕ, ◌+◌, ◌<◌, List, [], ◌∷◌, ◌++◌, length, Option}
+-- Where a run stands, and what came of a turn of it. It is ours.
+use Rattle.std.specs.Prelude.{◌≡◌, ℕ, ◌+◌, ◌≤◌, ◌<◌, ◌^◌, List, [], ◌∷◌, ◌++◌, length, Option, None, Some}
 use Rattle.std.specs.Io.KnownBytes.{Consumes, append_known}
-use Rattle.amr_io.specs.Fault.{Rose}
-use Rattle.rtp_packet.specs.declared.log_reader.LogReader.{LogReader}
-use Rattle.rtp_packet.specs.Lent.{Brings}
-use Rattle.rtp_packet.specs.Reading.{rest, taken_of, limit_of, Exhausts, Stops}
-use Rattle.rtp_packet.specs.Record.{IsWhole}
-use Rattle.log_engine.specs.Run.{Puts, PutsPart}
-use Rattle.log_engine.specs.declared.turn.Turn.{Turn}
+use Rattle.amr_io.specs.declared.sink.Sink as sink
+use Rattle.amr_io.specs.declared.source.Source as source
+use Rattle.log_engine.specs.Puts.{Puts, PutsPart}
+use Rattle.log_engine.specs.Run.{Why}
+use Rattle.log_engine.specs.Tray.{Grows}
 use Rattle.log_engine.specs.declared.gather_sink.GatherSink.{GatherSink}
-use Rattle.log_engine.specs.declared.turn.Turn.TheVariants.{Taken, End, Truncated, OverLimit, ReadFault, WriteFault}
+use Rattle.log_engine.specs.declared.handler.RecordHandler as handler
+use Rattle.rtp_packet.specs.Reading.{IsOpen, limit_of, rest, taken_of}
+use Rattle.rtp_packet.specs.Record.{IsWhole}
+use Rattle.rtp_packet.specs.declared.log_reader.LogReader.{LogReader}
+use Rattle.run_report.specs.declared.end.RunEnd.{RunEnd}
+use Rattle.run_report.specs.declared.end.RunEnd.TheVariants as end
+use Rattle.spec_packet.specs.Log.{IsPartial, framed}
+use Rattle.spec_run.specs.Flows.{Calm, FaultsOf, Flow, read_from, written_to}
+use Rattle.spec_run.specs.LogRuns.{MOST_HELD}
+
+-- where a run stands: who handles the records, the reader, the input, and the sink that gathers
+pub record State (H A B : Type 0) : Type 0 where
+  pub handler : H
+  pub reader : LogReader
+  pub input : A
+  pub sink : GatherSink B
+
+abbrev pub state : {H A B : Type 0} → H → LogReader → A → GatherSink B → State H A B
+state h r i s = record { handler = h; reader = r; input = i; sink = s }
 
 -- all that was put out, that which waits included
-abbrev pub logical : {O : Type 0} → (O → Option (List ℕ)) → GatherSink O → Option (List ℕ)
+abbrev pub logical : {B : Type 0} → (B → Option (List ℕ)) → GatherSink B → Option (List ℕ)
 logical got s = append_known (got s.output.now) s.gather.now.waiting
 
--- which count of faults rose, by what came of the record
-abbrev pub TurnFaults : Turn → ℕ → ℕ → ℕ → ℕ → Type 0
-TurnFaults ReadFault i i' o o' = Rose i i' × (o' ≡ o)
-TurnFaults WriteFault i i' o o' = (i' ≡ i) × Rose o o'
-TurnFaults _ i i' o o' = (i' ≡ i) × (o' ≡ o)
+-- what was written behind a sink that gathers
+abbrev pub sent : {B : Type 0} → sink.Ghosts B → GatherSink B → GatherSink B → Flow
+sent k old new = written_to k old.output.now new.output.now
 
--- what was read
-pub record Went (old new : LogReader) (more : List ℕ) : Type 0 where
+-- it is a sink over the same output, whose octets stay, and what stands beside these is as it was
+pub record SameSink {B : Type 0} (k : sink.Ghosts B) (old new : GatherSink B) : Type 0 where
+  pub reference : new.output.ghost_name ≡ old.output.ghost_name
+  pub same : k.same old.output.now new.output.now
+  pub beside : k.beside new.output.now ≡ k.beside old.output.now
+  pub grows : Grows (k.got old.output.now) (k.got new.output.now)
+
+-- which count of faults rose: none where a record was handled
+abbrev pub TurnFaults : Option RunEnd → Flow → Flow → Type 0
+TurnFaults None input output = Calm input × Calm output
+TurnFaults (Some how) input output = FaultsOf how input output
+
+-- what was read: these octets, none where a record was held, and `extra` past the limit
+pub record Went (input : Flow) (old new : LogReader) (more extra : List ℕ) : Type 0 where
+  pub took : Consumes input.told input.told' (more ++ extra)
   pub taken : taken_of new ≡ taken_of old + length more
+  pub within : taken_of new ≤ limit_of new
   pub limit : limit_of new ≡ limit_of old
   pub held : IsWhole (rest old) → more ≡ []
 
--- what came of the record, by the answer
-abbrev pub Turned : (List (List ℕ) → List ℕ) → (List (List ℕ) → Type 0) → (List (List ℕ) → Type 0) → Option (List ℕ) → Option (List ℕ) → LogReader → LogReader → Option (List ℕ) → Option (List ℕ) → List ℕ → List ℕ → Turn → Type 0
-Turned puts stands stands' left left' old new got got' w w' Taken = (packet : List ℕ) × (more : List ℕ) × Went old new more × Brings left left' more old packet new
-    × ((hs : List (List ℕ)) → stands hs → stands' (hs ++ packet ∷ []) × Puts (append_known got w) (append_known got' w') (puts hs) (puts (hs ++ packet ∷ [])))
-Turned puts stands stands' left left' old new got got' w w' WriteFault = (packet : List ℕ) × (more : List ℕ) × Went old new more × Brings left left' more old packet new
-    × ((hs : List (List ℕ)) → stands hs → PutsPart (append_known got w) (append_known got' w') (puts hs) (puts (hs ++ packet ∷ [])))
-Turned puts stands stands' left left' old new got got' w w' End = (more : List ℕ) × Went old new more × Consumes left left' more × Stops more old new × Exhausts left more × (rest new ≡ []) × ((hs : List (List ℕ)) → stands hs → stands' hs) × (got' ≡ got) × (w' ≡ w)
-Turned puts stands stands' left left' old new got got' w w' (Truncated have) = (more : List ℕ) × Went old new more × Consumes left left' more × Stops more old new × Exhausts left more × (length (rest new) ≡ have) × (0 < have) × ((hs : List (List ℕ)) → stands hs → stands' hs) × (got' ≡ got) × (w' ≡ w)
-Turned puts stands stands' left left' old new got got' w w' OverLimit = (more : List ℕ) × (x : ℕ) × Went old new more × Consumes left left' (more ++ x ∷ []) × Stops more old new × (taken_of new ≡ limit_of new) × ((hs : List (List ℕ)) → stands hs → stands' hs) × (got' ≡ got) × (w' ≡ w)
-Turned puts stands stands' left left' old new got got' w w' ReadFault = (more : List ℕ) × Went old new more × Consumes left left' more × Stops more old new × ((hs : List (List ℕ)) → stands hs → stands' hs) × (got' ≡ got) × (w' ≡ w)
+-- a record with this packet came
+pub record Brought (input : Flow) (old new : LogReader) (packet more : List ℕ) : Type 0 where
+  pub went : Went input old new more []
+  pub joins : rest old ++ more ≡ framed packet ++ rest new
+  pub short : length packet < 2 ^ 16
+  pub near : 2 + length packet + length (rest new) ≤ MOST_HELD
+  pub unended : IsOpen new
+
+-- a record came and was handled
+pub record Handled {H A B : Type 0} (h : handler.Ghosts H) (s : source.Ghosts A) (k : sink.Ghosts B) (old new : State H A B) : Type 0 where
+  pub packet : List ℕ
+  pub more : List ℕ
+  pub brought : Brought (read_from s old.input new.input) old.reader new.reader packet more
+  pub each : (hs : List (List ℕ)) → h.stands old.handler hs → h.stands new.handler (hs ++ packet ∷ [])
+      × Puts (logical k.got old.sink) (logical k.got new.sink)
+      ((h.job old.handler).early hs) ((h.job old.handler).early (hs ++ packet ∷ []))
+
+-- a record came, and a write failed while it was handled
+pub record HandledPart {H A B : Type 0} (h : handler.Ghosts H) (s : source.Ghosts A) (k : sink.Ghosts B) (old new : State H A B) : Type 0 where
+  pub packet : List ℕ
+  pub more : List ℕ
+  pub brought : Brought (read_from s old.input new.input) old.reader new.reader packet more
+  pub each : (hs : List (List ℕ)) → h.stands old.handler hs
+      → PutsPart (logical k.got old.sink) (logical k.got new.sink)
+      ((h.job old.handler).early hs) ((h.job old.handler).early (hs ++ packet ∷ []))
+
+-- no record came, and nothing was handled
+pub record Missed {H A B : Type 0} (s : source.Ghosts A) (old new : State H A B) (how : RunEnd) : Type 0 where
+  pub more : List ℕ
+  pub extra : List ℕ
+  pub went : Went (read_from s old.input new.input) old.reader new.reader more extra
+  pub joins : rest old.reader ++ more ≡ rest new.reader
+  pub partial : IsPartial (rest new.reader)
+  pub near : length (rest new.reader) + length extra ≤ MOST_HELD
+  pub why : Why (s.left old.input) more (taken_of new.reader) (limit_of new.reader) (rest new.reader) extra how
+  pub idle : new.handler ≡ old.handler
+  pub still : new.sink ≡ old.sink
+
+-- what came of a turn: a record was handled, or the run ends so
+abbrev pub Turned : {H A B : Type 0} → handler.Ghosts H → source.Ghosts A → sink.Ghosts B → State H A B → State H A B → Option RunEnd → Type 0
+Turned h s k old new None = Handled h s k old new
+Turned h s k old new (Some end.WriteFault) = HandledPart h s k old new
+Turned h s k old new (Some end.Done) = Missed s old new end.Done
+Turned h s k old new (Some (end.LogCut have)) = Missed s old new (end.LogCut have)
+Turned h s k old new (Some end.LimitReached) = Missed s old new end.LimitReached
+Turned h s k old new (Some end.ReadFault) = Missed s old new end.ReadFault
+Turned h s k old new (Some end.OutOfMemory) = ⊥

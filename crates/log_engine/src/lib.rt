@@ -1,20 +1,17 @@
-//! One loop for every command that reads a log: records go to a taker, what it puts out is gathered and written before each read,
-//! and the contract says what a run reads and puts out by how it ends.
+//! One loop for every command that reads a log: records go to a handler, what it puts out is gathered and written before each
+//! read, and the contract says that the run did what the handler's job means.
 #![tactic(auto)]
 
 mod gather;
 mod gather_sink;
-mod log_end;
+mod handler;
 mod run;
-mod taker;
-mod turn;
 mod turns;
 
 pub use gather::Gather;
 pub use gather_sink::GatherSink;
-pub use log_end::LogEnd;
-pub use run::drive;
-pub use taker::Taker;
+pub use handler::RecordHandler;
+pub use run::run_records;
 
 #[cfg(test)]
 mod tests;

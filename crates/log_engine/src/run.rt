@@ -1,119 +1,85 @@
 // A run over the records of a log.
-ghost use Rattle.std.specs.Prelude.{◌≡◌, ◌≢◌, ℕ, ◌+◌, ◌-◌, ◌^◌, ◌≤◌, ◌<◌, ◌⊎◌, List, [], ◌∷◌, ◌++◌, length, Some, IfSome};
-ghost use Rattle.rtp_packet.specs.Reading.{rest, limit_of, IsFresh};
-ghost use Rattle.log_engine.specs.Run.{Ran, FaultsOf};
-ghost use Rattle.log_engine.specs.Turns.{TurnFaults};
+ghost use Rattle.std.specs.Prelude.{◌≡◌, ◌≢◌, ◌^◌, ◌≤◌, []};
 ghost use Rattle.log_engine.specs.Progress.{After};
-ghost use Rattle.log_engine.specs.Told.{Told, BrokeReading, BrokeWriting};
+ghost use Rattle.log_engine.specs.Turns.{SameSink, sent, state};
+ghost use Rattle.rtp_packet.specs.Reading.{IsFresh, limit_of};
+ghost use Rattle.spec_run.specs.Flows.{FaultsOf, read_from};
+ghost use Rattle.spec_run.specs.LogRuns.{log_meaning};
+ghost use Rattle.spec_run.specs.Meanings.{Works, work_of};
 
 use crate::gather_sink::GatherSink;
-use crate::log_end::LogEnd;
-use crate::taker::Taker;
-use crate::turn::Turn;
-use crate::turns::{begin, close, make_way, take_next};
+use crate::handler::RecordHandler;
+use crate::turns::{begin, close, handle_next, make_way};
 use amr_io::{Sink, Source};
 use rtp_packet::LogReader;
+use run_report::RunEnd;
 
-/// Takes records until something else comes.
-fn go<I: Source, O: Sink, T: Taker>(
-    taker: &mut T,
+/// Handles records until no more comes, and says how the run ends unless its close fails.
+fn handle_all<I: Source, O: Sink, H: RecordHandler>(
+    handler: &mut H,
     reader: &mut LogReader,
     input: &mut I,
     sink: &mut GatherSink<'_, O>,
-) -> Turn
-    requires taker { T.fresh taker.old }
+) -> RunEnd
+    requires handler { H.fresh handler.old }
     requires fresh { IsFresh reader.old }
     requires limit { limit_of reader.old ≤ 2 ^ 40 }
     requires empty { sink.old.gather.now.waiting ≡ [] }
 
-    ensures after { After (T.puts taker.old) (T.ends taker.old) (T.stands taker.new) (limit_of reader.old) (I.left input.old) (I.left input.new) (O.got sink.old.output.now) (O.got sink.new.output.now) sink.new.gather.now.waiting (rest reader.new) result }
-    ensures stopped { result ≢ Turn.Taken }
-    ensures ready { result ≢ Turn.WriteFault → T.ready taker.new }
-    ensures kept { (T.puts taker.new ≡ T.puts taker.old) × (T.ends taker.new ≡ T.ends taker.old) }
-    ensures alike { T.alike taker.old taker.new }
-    ensures faults { TurnFaults result (I.faults input.old) (I.faults input.new) (O.faults sink.old.output.now) (O.faults sink.new.output.now) }
-    ensures same { (sink.new.output.ghost_name ≡ sink.old.output.ghost_name) × O.same sink.old.output.now sink.new.output.now }
+    ensures after { After H.RecordHandler I.Source O.Sink
+        (state handler.old reader.old input.old sink.old)
+        (state handler.new reader.new input.new sink.new) result }
+    ensures ready { result ≢ RunEnd.WriteFault → H.ready handler.new }
+    ensures kept { H.job handler.new ≡ H.job handler.old }
+    ensures faults { FaultsOf result (read_from I.Source input.old input.new)
+        (sent O.Sink sink.old sink.new) }
+    ensures same { SameSink O.Sink sink.old sink.new }
 {
-    if let Err(_) = begin(taker, sink) {
-        return Turn::WriteFault;
+    if let Err(_) = begin(handler, sink) {
+        return RunEnd::WriteFault;
     }
     'records: loop {
         if let Err(_) = make_way(reader, sink) {
-            return Turn::WriteFault;
+            return RunEnd::WriteFault;
         }
-        match take_next(taker, reader, input, sink) {
-            Turn::Taken => {}
-            other => return other,
+        if let Some(end) = handle_next(handler, reader, input, sink) {
+            return end;
         }
     }
 }
 
-/// Takes all records, and closes the taker where no fault came.
-fn run_all<I: Source, O: Sink, T: Taker>(
-    taker: &mut T,
-    reader: &mut LogReader,
-    input: &mut I,
-    sink: &mut GatherSink<'_, O>,
-) -> LogEnd
-    requires taker { T.fresh taker.old }
-    requires fresh { IsFresh reader.old }
-    requires limit { limit_of reader.old ≤ 2 ^ 40 }
-    requires empty { sink.old.gather.now.waiting ≡ [] }
-
-    ensures ran { Ran (T.puts taker.old) (T.ends taker.old) (T.closed taker.new) (limit_of reader.old) (I.left input.old) (I.left input.new) (O.got sink.old.output.now) (O.got sink.new.output.now) result }
-    ensures faults { FaultsOf result (I.faults input.old) (I.faults input.new) (O.faults sink.old.output.now) (O.faults sink.new.output.now) }
-    ensures alike { T.alike taker.old taker.new }
-    ensures same_reference { sink.new.output.ghost_name ≡ sink.old.output.ghost_name }
-    ensures same { O.same sink.old.output.now sink.new.output.now }
-{
-    match go(taker, reader, input, sink) {
-        Turn::Taken => unreachable!(),
-        Turn::ReadFault => LogEnd::ReadFault,
-        Turn::WriteFault => LogEnd::WriteFault,
-        Turn::End => match close(taker, sink) {
-            Ok(()) => LogEnd::Done,
-            Err(_) => LogEnd::WriteFault,
-        },
-        Turn::Truncated { have } => match close(taker, sink) {
-            Ok(()) => LogEnd::LogCut { have },
-            Err(_) => LogEnd::WriteFault,
-        },
-        Turn::OverLimit => match close(taker, sink) {
-            Ok(()) => LogEnd::LimitReached,
-            Err(_) => LogEnd::WriteFault,
-        },
-    }
-}
-
-/// Reads the records of a log to the end, at most so many octets as `reader` allows, and puts out what `taker` makes of them.
+/// Reads the records of a log to the end, at most so many octets as `reader` allows, and puts out what `handler` makes of them.
 ///
 /// What waits in `sink` is written before each read, so that at a fault all is out that belongs to the octets read before those
 /// that the reader holds. No memory is taken. `ReadFault` comes only where the input's faults rose, `WriteFault` only where the
-/// output's did, and the run ends there. `LimitReached` comes where the log has more octets than the limit, else `LogCut` where it
-/// ends inside a record, else `Done`: the taker is then closed.
-pub fn drive<I: Source, O: Sink, T: Taker>(
-    taker: &mut T,
+/// output's did, and the run ends there. `LimitReached` comes where the log has more octets than the limit, else `LogCut` where
+/// it ends inside a record, else `Done`: the handler has then ended, and counted all.
+pub fn run_records<I: Source, O: Sink, H: RecordHandler>(
+    handler: &mut H,
     reader: &mut LogReader,
     input: &mut I,
     sink: &mut GatherSink<'_, O>,
-) -> LogEnd
-    requires taker { T.fresh taker.old }
+) -> RunEnd
+    requires handler { H.fresh handler.old }
     requires fresh { IsFresh reader.old }
     requires limit { limit_of reader.old ≤ 2 ^ 40 }
     requires empty { sink.old.gather.now.waiting ≡ [] }
 
-    ensures ran { Ran (T.puts taker.old) (T.ends taker.old) (T.closed taker.new) (limit_of reader.old) (I.left input.old) (I.left input.new) (O.got sink.old.output.now) (O.got sink.new.output.now) result }
-    ensures faults { FaultsOf result (I.faults input.old) (I.faults input.new) (O.faults sink.old.output.now) (O.faults sink.new.output.now) }
-
-    // Where the input tells its octets.
-    ensures told { IfSome (I.left input.old) (λ all. Told (T.ends taker.old) (T.closed taker.new) (limit_of reader.old) all (O.got sink.old.output.now) (O.got sink.new.output.now) result) }
-    ensures read_fault { result ≡ LogEnd.ReadFault → BrokeReading (T.puts taker.old) (T.ends taker.old) (limit_of reader.old) (I.left input.old) (I.left input.new) (O.got sink.old.output.now) (O.got sink.new.output.now) }
-    ensures write_fault { result ≡ LogEnd.WriteFault → BrokeWriting (T.puts taker.old) (T.ends taker.old) (limit_of reader.old) (I.left input.old) (I.left input.new) (O.got sink.old.output.now) (O.got sink.new.output.now) }
-    ensures nothing_left { result ≡ LogEnd.Done → IfSome (I.left input.old) (λ _. I.left input.new ≡ Some []) }
-
-    ensures alike { T.alike taker.old taker.new }
-    ensures same_reference { sink.new.output.ghost_name ≡ sink.old.output.ghost_name }
+    ensures works { Works (log_meaning (limit_of reader.old) (H.job handler.old)) (work_of I.Source
+        O.Sink input.old input.new sink.old.output.now sink.new.output.now
+        (record { end = result; counts = H.counts handler.new })) }
+    ensures never_memory { result ≢ RunEnd.OutOfMemory }
+    ensures job { H.job handler.new ≡ H.job handler.old }
+    ensures beside { O.beside sink.new.output.now ≡ O.beside sink.old.output.now }
     ensures same { O.same sink.old.output.now sink.new.output.now }
+    ensures same_reference { sink.new.output.ghost_name ≡ sink.old.output.ghost_name }
 {
-    run_all(taker, reader, input, sink)
+    match handle_all(handler, reader, input, sink) {
+        RunEnd::ReadFault => RunEnd::ReadFault,
+        RunEnd::WriteFault => RunEnd::WriteFault,
+        end => match close(handler, sink) {
+            Ok(()) => end,
+            Err(_) => RunEnd::WriteFault,
+        },
+    }
 }

@@ -1,37 +1,37 @@
 // The steps of a run: its beginning, a turn for each record, and its close.
-ghost use Rattle.std.specs.Prelude.{◌≡◌, ◌≢◌, ℕ, ◌+◌, ◌-◌, ◌^◌, ◌≤◌, ◌<◌, ◌⊎◌, List, [], ◌∷◌, ◌++◌, length, OnOk, OnErr};
-ghost use Rattle.std.specs.Io.KnownBytes.{Keeps, Appends};
+ghost use Rattle.std.specs.Prelude.{◌≡◌, ◌≢◌, ℕ, ◌+◌, ◌^◌, ◌<◌, ◌⊎◌, List, [], None, Some, OnOk, OnErr};
+ghost use Rattle.std.specs.Io.KnownBytes.{Appends, Keeps};
 ghost use Rattle.amr_io.specs.Fault.{HasCause};
+ghost use Rattle.log_engine.specs.Puts.{Puts, PutsPart};
+ghost use Rattle.log_engine.specs.Turns.{SameSink, TurnFaults, Turned, logical, sent, state};
+ghost use Rattle.rtp_packet.specs.Reading.{IsOpen, rest};
 ghost use Rattle.rtp_packet.specs.Record.{IsWhole};
-ghost use Rattle.rtp_packet.specs.Reading.{rest, IsOpen};
-ghost use Rattle.log_engine.specs.Tray.{Grows};
-ghost use Rattle.log_engine.specs.Run.{Puts, PutsPart};
-ghost use Rattle.log_engine.specs.Turns.{Turned, TurnFaults, logical};
+ghost use Rattle.spec_run.specs.Flows.{read_from};
 
 use crate::gather_sink::GatherSink;
-use crate::taker::Taker;
-use crate::turn::Turn;
+use crate::handler::RecordHandler;
 use amr_io::{Failed, Sink, Source};
 use rtp_packet::{LogReader, Next};
+use run_report::RunEnd;
 
 /// Puts out what comes before all records, and writes it.
-pub(crate) fn begin<O: Sink, T: Taker>(
-    taker: &mut T,
+pub(crate) fn begin<O: Sink, H: RecordHandler>(
+    handler: &mut H,
     sink: &mut GatherSink<'_, O>,
 ) -> Result<(), Failed>
-    requires fresh { T.fresh taker.old }
+    requires fresh { H.fresh handler.old }
 
-    ensures counted { OnOk result (T.taken taker.new ≡ 0) }
-    ensures ready { OnOk result (T.ready taker.new) }
-    ensures done { OnOk result (T.stands taker.new [] × Appends (logical O.got sink.old) (logical O.got sink.new) (T.puts taker.old []) × (sink.new.gather.now.waiting ≡ [])) }
-    ensures failed { OnErr result (PutsPart (logical O.got sink.old) (logical O.got sink.new) [] (T.puts taker.old [])) }
-    ensures kept { (T.puts taker.new ≡ T.puts taker.old) × (T.ends taker.new ≡ T.ends taker.old) }
-    ensures alike { T.alike taker.old taker.new }
+    ensures ready { OnOk result (H.ready handler.new × (H.handled handler.new ≡ 0)) }
+    ensures done { OnOk result (H.stands handler.new []
+        × Appends (logical O.got sink.old) (logical O.got sink.new) ((H.job handler.old).early [])) }
+    ensures empty { OnOk result (sink.new.gather.now.waiting ≡ []) }
+    ensures failed { OnErr result (PutsPart (logical O.got sink.old) (logical O.got sink.new) []
+        ((H.job handler.old).early [])) }
+    ensures kept { H.job handler.new ≡ H.job handler.old }
     ensures cause { HasCause (O.faults sink.old.output.now) (O.faults sink.new.output.now) result }
-    ensures grows { Grows (O.got sink.old.output.now) (O.got sink.new.output.now) }
-    ensures same { (sink.new.output.ghost_name ≡ sink.old.output.ghost_name) × O.same sink.old.output.now sink.new.output.now }
+    ensures same { SameSink O.Sink sink.old sink.new }
 {
-    taker.start(sink)?;
+    handler.begin(sink)?;
     sink.flush()
 }
 
@@ -43,8 +43,7 @@ pub(crate) fn make_way<O: Sink>(
     ensures kept { Keeps (logical O.got sink.old) (logical O.got sink.new) }
     ensures ready { OnOk result (IsWhole (rest reader.now) ⊎ (sink.new.gather.now.waiting ≡ [])) }
     ensures cause { HasCause (O.faults sink.old.output.now) (O.faults sink.new.output.now) result }
-    ensures grows { Grows (O.got sink.old.output.now) (O.got sink.new.output.now) }
-    ensures same { (sink.new.output.ghost_name ≡ sink.old.output.ghost_name) × O.same sink.old.output.now sink.new.output.now }
+    ensures same { SameSink O.Sink sink.old sink.new }
 {
     if reader.holds_record() {
         return Ok(());
@@ -52,57 +51,62 @@ pub(crate) fn make_way<O: Sink>(
     sink.flush()
 }
 
-/// Takes the next record.
-pub(crate) fn take_next<I: Source, O: Sink, T: Taker>(
-    taker: &mut T,
+/// Handles the next record. Where none comes, or a write fails, it says how the run ends.
+pub(crate) fn handle_next<I: Source, O: Sink, H: RecordHandler>(
+    handler: &mut H,
     reader: &mut LogReader,
     input: &mut I,
     sink: &mut GatherSink<'_, O>,
-) -> Turn
-    requires open { IsOpen reader.old }
-    requires ready { T.ready taker.old }
-    requires few { T.taken taker.old < 2 ^ 40 }
+) -> Option<RunEnd>
+    requires unended { IsOpen reader.old }
+    requires ready { H.ready handler.old }
+    requires few { H.handled handler.old < 2 ^ 40 }
 
-    ensures counted { result ≡ Turn.Taken → T.taken taker.new ≡ T.taken taker.old + 1 }
-    ensures ready { result ≢ Turn.WriteFault → T.ready taker.new }
-    ensures turned { Turned (T.puts taker.old) (T.stands taker.old) (T.stands taker.new) (I.left input.old) (I.left input.new) reader.old reader.new (O.got sink.old.output.now) (O.got sink.new.output.now) sink.old.gather.now.waiting sink.new.gather.now.waiting result }
-    ensures kept { (T.puts taker.new ≡ T.puts taker.old) × (T.ends taker.new ≡ T.ends taker.old) }
-    ensures alike { T.alike taker.old taker.new }
-    ensures faults { TurnFaults result (I.faults input.old) (I.faults input.new) (O.faults sink.old.output.now) (O.faults sink.new.output.now) }
-    ensures grows { Grows (O.got sink.old.output.now) (O.got sink.new.output.now) }
-    ensures same { (sink.new.output.ghost_name ≡ sink.old.output.ghost_name) × O.same sink.old.output.now sink.new.output.now }
+    ensures counted { result ≡ None → H.handled handler.new ≡ H.handled handler.old + 1 }
+    ensures ready { result ≢ Some RunEnd.WriteFault → H.ready handler.new }
+    ensures turned { Turned H.RecordHandler I.Source O.Sink
+        (state handler.old reader.old input.old sink.old)
+        (state handler.new reader.new input.new sink.new) result }
+    ensures kept { H.job handler.new ≡ H.job handler.old }
+    ensures faults { TurnFaults result (read_from I.Source input.old input.new)
+        (sent O.Sink sink.old sink.new) }
+    ensures same { SameSink O.Sink sink.old sink.new }
 {
     match reader.next(input) {
-        Ok(Next::Packet(packet)) => match taker.take(packet, sink) {
-            Ok(()) => Turn::Taken,
-            Err(_) => Turn::WriteFault,
+        Ok(Next::Packet(packet)) => match handler.handle(packet, sink) {
+            Ok(()) => None,
+            Err(_) => Some(RunEnd::WriteFault),
         },
-        Ok(Next::Null) => match taker.take(b"", sink) {
-            Ok(()) => Turn::Taken,
-            Err(_) => Turn::WriteFault,
+        Ok(Next::Null) => match handler.handle(b"", sink) {
+            Ok(()) => None,
+            Err(_) => Some(RunEnd::WriteFault),
         },
-        Ok(Next::End) => Turn::End,
-        Ok(Next::Truncated { have }) => Turn::Truncated { have },
-        Ok(Next::OverLimit) => Turn::OverLimit,
-        Err(_) => Turn::ReadFault,
+        Ok(Next::End) => Some(RunEnd::Done),
+        Ok(Next::Truncated { have }) => Some(RunEnd::LogCut { have }),
+        Ok(Next::OverLimit) => Some(RunEnd::LimitReached),
+        Err(_) => Some(RunEnd::ReadFault),
     }
 }
 
 /// Puts out the rest, and writes all.
-pub(crate) fn close<O: Sink, T: Taker>(
-    taker: &mut T,
+pub(crate) fn close<O: Sink, H: RecordHandler>(
+    handler: &mut H,
     sink: &mut GatherSink<'_, O>,
 ) -> Result<(), Failed>
-    requires ready { T.ready taker.old }
+    requires ready { H.ready handler.old }
 
-    ensures done { OnOk result ((sink.new.gather.now.waiting ≡ []) × ((hs : List (List ℕ)) → T.stands taker.old hs
-        → T.closed taker.new hs × Puts (logical O.got sink.old) (logical O.got sink.new) (T.puts taker.old hs) (T.ends taker.old hs))) }
-    ensures failed { OnErr result ((hs : List (List ℕ)) → T.stands taker.old hs → PutsPart (logical O.got sink.old) (logical O.got sink.new) (T.puts taker.old hs) (T.ends taker.old hs)) }
-    ensures alike { T.alike taker.old taker.new }
+    ensures done { OnOk result ((hs : List (List ℕ)) → H.stands handler.old hs
+        → (H.counts handler.new ≡ (H.job handler.old).counts hs)
+        × Puts (logical O.got sink.old) (logical O.got sink.new)
+        ((H.job handler.old).early hs) ((H.job handler.old).whole hs)) }
+    ensures empty { OnOk result (sink.new.gather.now.waiting ≡ []) }
+    ensures failed { OnErr result ((hs : List (List ℕ)) → H.stands handler.old hs
+        → PutsPart (logical O.got sink.old) (logical O.got sink.new)
+        ((H.job handler.old).early hs) ((H.job handler.old).whole hs)) }
+    ensures kept { H.job handler.new ≡ H.job handler.old }
     ensures cause { HasCause (O.faults sink.old.output.now) (O.faults sink.new.output.now) result }
-    ensures grows { Grows (O.got sink.old.output.now) (O.got sink.new.output.now) }
-    ensures same { (sink.new.output.ghost_name ≡ sink.old.output.ghost_name) × O.same sink.old.output.now sink.new.output.now }
+    ensures same { SameSink O.Sink sink.old sink.new }
 {
-    taker.finish(sink)?;
+    handler.end(sink)?;
     sink.flush()
 }
