@@ -52,12 +52,12 @@ module _ (m : Meaning) (r : Run) (ran : Ran m r) where
 
   puts_by : Outcome ran.report.end r.notes r.status → (all : List ℕ) → r.input.told ≡ Some all → (Failed r.input → ⊥) → (Failed r.output → ⊥)
       → (r.status ≡ status.OutOfMemory) ⊎ (Appends r.output.told r.output.told' (m.out all) × EndsAs (m.end all) r.notes r.status)
-  puts_by (Done is calm s) all told ni no = served_out all (done_at all told is)
-  puts_by (ButNotes is failed s) all told ni no = served_out all (done_at all told is)
-  puts_by (Read is s) all told ni no = absurd (ni (faults_at end.ReadFault is).0)
-  puts_by (Write is s) all told ni no = absurd (no (faults_at end.WriteFault is).1)
-  puts_by (Memory is s) all told ni no = inl s
-  puts_by (Refused refuses) all told ni no = served_out all (ran.worked.served (refused_finished _ _ refuses) all told)
+  puts_by (Done is calm s) all told ni nw = served_out all (done_at all told is)
+  puts_by (ButNotes is failed s) all told ni nw = served_out all (done_at all told is)
+  puts_by (Read is s) all told ni nw = absurd (ni (faults_at end.ReadFault is).0)
+  puts_by (Write is s) all told ni nw = absurd (nw (faults_at end.WriteFault is).1)
+  puts_by (Memory is s) all told ni nw = inl s
+  puts_by (Refused refuses) all told ni nw = served_out all (ran.worked.served (refused_finished _ _ refuses) all told)
 
   pub puts_out : PutsOut m r
   puts_out = record { put = puts_by what }
@@ -145,7 +145,7 @@ module _ (m : Meaning) (r : Run) (ran : Ran m r) where
   notes_fault = never_done what
 
   -- the notes are those of the status, but where a fault of theirs changed it
-  text : List ℕ
+  abbrev text : List ℕ
   text = notes_of m.lines ran.report
 
   text_by : Outcome ran.report.end r.notes r.status → (all : List ℕ) → r.input.told ≡ Some all

@@ -17,9 +17,9 @@ use Rattle.spec_run.specs.Meanings.{Meaning}
 -- the notes of an input that was refused
 pub refused_text : (m : Meaning) (all : List ℕ) (c : Counts) (e : RunEnd) (s : Status) → Refuses e s
     → e ≡ m.end all → c ≡ m.counts all → notes_of m.lines (record { end = e; counts = c }) ≡ notes_at m all s
-refused_text m all c (end.LogCut have) status.InputRefused (Input have) is same =
+refused_text m all c _ _ (Input have) is same =
     λ i. count_lines m.lines (same i) ++ end_line (is i)
-refused_text m all c end.LimitReached status.LimitReached Limit is same =
+refused_text m all c _ _ Limit is same =
     λ i. count_lines m.lines (same i) ++ end_line end.LimitReached
 
 -- the notes where all was done

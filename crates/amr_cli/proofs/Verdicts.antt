@@ -42,12 +42,12 @@ outcome end.LimitReached notes s ended =
 
 -- an input that was refused was worked off without a fault
 pub refused_finished : (e : RunEnd) (s : Status) → Refuses e s → IsFinished e
-refused_finished (end.LogCut have) status.InputRefused (Input have) = tt
-refused_finished end.LimitReached status.LimitReached Limit = tt
+refused_finished _ _ (Input have) = tt
+refused_finished _ _ Limit = tt
 
 pub refused_calm : (e : RunEnd) (s : Status) (i o : Flow) → Refuses e s → FaultsOf e i o → Calm i × Calm o
-refused_calm (end.LogCut have) status.InputRefused i o (Input have) f = f
-refused_calm end.LimitReached status.LimitReached i o Limit f = f
+refused_calm _ _ i o (Input have) f = f
+refused_calm _ _ i o Limit f = f
 
 -- a status that doesn't tell a refused input
 abbrev pub Plain : Status → Type 0
@@ -60,5 +60,5 @@ Plain status.WriteFault = Unit {0}
 Plain status.OutOfMemory = Unit {0}
 
 pub refused_not : (e : RunEnd) (s t : Status) → Refuses e s → Plain t → s ≡ t → ⊥
-refused_not (end.LogCut have) status.InputRefused t (Input have) plain is = subst Plain (sym is) plain
-refused_not end.LimitReached status.LimitReached t Limit plain is = subst Plain (sym is) plain
+refused_not _ _ t (Input have) plain is = subst Plain (sym is) plain
+refused_not _ _ t Limit plain is = subst Plain (sym is) plain

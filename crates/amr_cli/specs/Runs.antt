@@ -1,5 +1,5 @@
 -- A run of the program over what it is lent, and what is promised of it: ours.
-use Rattle.std.specs.Prelude.{◌≡◌, ◌⊎◌, ⊥, ℕ, List, Some}
+use Rattle.std.specs.Prelude.{◌≡◌, ◌⊎◌, ℕ, List, Some}
 use Rattle.std.specs.Io.KnownBytes.{Appends}
 use Rattle.amr_cli.specs.Noted.{Noted, lines_of, notes_at}
 use Rattle.amr_cli.specs.Statuses.{EndsAs}
