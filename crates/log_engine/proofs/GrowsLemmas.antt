@@ -20,7 +20,8 @@ Grows-through a b c p q = (p.0 ++ q.0, Appends-trans a b c p.0 q.0 p.1 q.1)
 pub Keeps-Appends : (a b : Option (List ℕ)) → Keeps a b → Appends a b []
 Keeps-Appends a b kept = Appends-kept a a b [] (Appends-nil a) kept
 
-pub Grows-writes : {E : Type 0} (a b : Option (List ℕ)) (r : Result ℕ E) (bytes : List ℕ) → Writes a b r bytes → Grows a b
+pub Grows-writes : {E : Type 0} (a b : Option (List ℕ)) (r : Result ℕ E) (bytes : List ℕ)
+    → Writes a b r bytes → Grows a b
 Grows-writes a b (Ok n) bytes wrote = (take n bytes, wrote.2)
 Grows-writes a b (Err e) bytes kept = ([], Keeps-Appends a b kept)
 
@@ -73,5 +74,6 @@ same_through k law s0 s1 s2 p q = record {
   reference = q.reference ∙ p.reference;
   same = law s0.output.now s1.output.now s2.output.now p.same q.same;
   beside = q.beside ∙ p.beside;
-  grows = Grows-through (k.got s0.output.now) (k.got s1.output.now) (k.got s2.output.now) p.grows q.grows;
+  grows = Grows-through (k.got s0.output.now) (k.got s1.output.now) (k.got s2.output.now) p.grows
+    q.grows;
 }

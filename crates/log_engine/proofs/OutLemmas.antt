@@ -18,13 +18,15 @@ append_known-nil None = refl
 append_known-nil (Some xs) = ap Some (append-nil xs)
 
 -- where nothing waits, what was put out is what was written
-pub none_waits : (got : Option (List ℕ)) (waiting : List ℕ) → waiting ≡ [] → append_known got waiting ≡ got
+pub none_waits : (got : Option (List ℕ)) (waiting : List ℕ) → waiting ≡ []
+    → append_known got waiting ≡ got
 none_waits got waiting none = ap (append_known got) none ∙ append_known-nil got
 
 -- all that was put out is written
 pub all_written : (g0 g : Option (List ℕ)) (waiting all : List ℕ)
     → waiting ≡ [] → Appends g0 (append_known g waiting) all → Appends g0 g all
-all_written g0 g waiting all none put = subst (λ o. Appends g0 o all) (none_waits g waiting none) put
+all_written g0 g waiting all none put =
+    subst (λ o. Appends g0 o all) (none_waits g waiting none) put
 
 -- these octets were written: they begin with `base`, and are a part of `whole`
 pub record Within (got got' : Option (List ℕ)) (base whole : List ℕ) : Type 0 where

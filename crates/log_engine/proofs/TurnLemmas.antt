@@ -20,7 +20,8 @@ within_limit : (reader : LogReader) → taken_of reader ≤ limit_of reader
 within_limit reader = reader.limited
 
 -- the answer of a reader, once it is known
-pub gives_at : (left left' : Option (List ℕ)) (old new : LogReader) (r r' : Result Next Failed) → r ≡ r'
+pub gives_at : (left left' : Option (List ℕ)) (old new : LogReader) (r r' : Result Next Failed)
+    → r ≡ r'
     → (w : GoesOn left left' old r new) → Gives left left' w.0 old r' new
 gives_at left left' old new r r' same w =
     subst (λ (q : Result Next Failed). Gives left left' w.0 old q new) same w.1
@@ -57,9 +58,11 @@ brought_of input old new r packet w b = record {
 pub missed_of : {H A B : Type 0} (s : source.Ghosts A) (old new : State H A B) (how : RunEnd)
     (r : Result Next Failed) (extra : List ℕ)
     → (w : GoesOn (s.left old.input) (s.left new.input) old.reader r new.reader)
-    → Consumes (s.left old.input) (s.left new.input) (w.0 ++ extra) → Stops w.0 old.reader new.reader
+    → Consumes (s.left old.input) (s.left new.input) (w.0 ++ extra)
+    → Stops w.0 old.reader new.reader
     → length extra ≤ 1
-    → Why (s.left old.input) w.0 (taken_of new.reader) (limit_of new.reader) (rest new.reader) extra how
+    → Why (s.left old.input) w.0 (taken_of new.reader) (limit_of new.reader) (rest new.reader)
+    extra how
     → new.handler ≡ old.handler → new.sink ≡ old.sink → Missed s old new how
 missed_of s old new how r extra w took stops small why idle still = record {
   more = w.0;
@@ -74,7 +77,8 @@ missed_of s old new how r extra w took stops small why idle still = record {
 }
 
 -- a log that was cut inside a record
-cut_end : (rest : List ℕ) (have : ℕ) → length rest ≡ have → 0 < have → end.LogCut have ≡ rest_end rest
+cut_end : (rest : List ℕ) (have : ℕ) → length rest ≡ have → 0 < have
+    → end.LogCut have ≡ rest_end rest
 cut_end [] have same some = absurd (omega (arith, same, some))
 cut_end (x ∷ xs) have same some = ap end.LogCut (sym same)
 
@@ -84,7 +88,8 @@ pub done_why : (told : Option (List ℕ)) (octets rest : List ℕ)
 done_why told octets rest all none = record { none = refl; all = all; is = ap rest_end (sym none) }
 
 pub cut_why : (told : Option (List ℕ)) (octets rest : List ℕ) (have : ℕ)
-    → Exhausts told octets → length rest ≡ have → 0 < have → Ended told octets rest [] (end.LogCut have)
+    → Exhausts told octets → length rest ≡ have → 0 < have
+    → Ended told octets rest [] (end.LogCut have)
 cut_why told octets rest have all same some =
     record { none = refl; all = all; is = cut_end rest have same some }
 
@@ -93,8 +98,10 @@ pub missed_at : {H A B : Type 0} (s : source.Ghosts A) (old new : State H A B) (
     (r : Result Next Failed)
     → (w : GoesOn (s.left old.input) (s.left new.input) old.reader r new.reader)
     → Consumes (s.left old.input) (s.left new.input) w.0 → Stops w.0 old.reader new.reader
-    → Why (s.left old.input) w.0 (taken_of new.reader) (limit_of new.reader) (rest new.reader) [] how
+    → Why (s.left old.input) w.0 (taken_of new.reader) (limit_of new.reader) (rest new.reader)
+    [] how
     → new.handler ≡ old.handler → new.sink ≡ old.sink → Missed s old new how
 missed_at s old new how r w took stops why idle still =
-    missed_of s old new how r [] w (alone (read_from s old.input new.input) w.0 took) stops (omega arith)
+    missed_of s old new how r [] w (alone (read_from s old.input new.input) w.0 took) stops
+    (omega arith)
     why idle still

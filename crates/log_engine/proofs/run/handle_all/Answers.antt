@@ -49,14 +49,16 @@ records-preserved g c =
     let now = state c.records.handler c.records.reader c.records.input c.records.sink in
     let way = c.in_default-make_way.ensures in
     let paused = state c.records.handler c.records.reader c.records.input c.make_way.new.sink in
-    let next = state c.handle_next.new.handler c.handle_next.new.reader c.handle_next.new.input c.handle_next.new.sink in
+    let next = state c.handle_next.new.handler c.handle_next.new.reader c.handle_next.new.input
+    c.handle_next.new.sink in
     let kept = c.records.invariant in
     let turn = c.in_default-handle_next.ensures in
     let handled = turn.turned in
     let went = handled.brought.went in
     let ready = ready_of g.H.RecordHandler g.I.Source g.O.Sink first now c.make_way.new.sink
     kept.under way.kept way.same.grows way.ready in
-    let size = turn_size handled.packet (rest now.reader) (rest next.reader) handled.more handled.brought.joins in
+    let size = turn_size handled.packet (rest now.reader) (rest next.reader) handled.more
+    handled.brought.joins in
     let same = same_through g.O.Sink g.met.O.Sink.transitive in
     let before = same c.args.sink.now now.sink paused.sink kept.same way.same in
     record {
@@ -77,7 +79,8 @@ pub records-smaller : goal.records-smaller
 records-smaller g c =
     let handled = c.in_default-handle_next.ensures.turned in
     let went = handled.brought.went in
-    let size = turn_size handled.packet (rest c.records.reader) (rest c.handle_next.new.reader) handled.more handled.brought.joins in
+    let size = turn_size handled.packet (rest c.records.reader) (rest c.handle_next.new.reader)
+    handled.more handled.brought.joins in
     omega (arith, went.taken, went.limit, went.within, size)
 
 pub returns-in-Err-make_way-clause-same : goal.returns-in-Err-make_way-clause-same
@@ -90,14 +93,16 @@ returns-in-Some-clause-after g c =
     let first = state c.args.handler.now c.args.reader.now c.args.input.now c.args.sink.now in
     let now = state c.records.handler c.records.reader c.records.input c.records.sink in
     let paused = state c.records.handler c.records.reader c.records.input c.make_way.new.sink in
-    let next = state c.handle_next.new.handler c.handle_next.new.reader c.handle_next.new.input c.handle_next.new.sink in
+    let next = state c.handle_next.new.handler c.handle_next.new.reader c.handle_next.new.input
+    c.handle_next.new.sink in
     let way = c.in_default-make_way.ensures in
     let kept = c.records.invariant in
     let turn = c.in-Some.ensures in
     let ready = ready_of g.H.RecordHandler g.I.Source g.O.Sink first now c.make_way.new.sink
     kept.under way.kept way.same.grows way.ready in
     after_turn g.H.RecordHandler g.I.Source g.O.Sink first paused next c.in-Some.end
-    (g.met.H.RecordHandler.early_grows c.args.handler.now) ready kept.job kept.limit turn.same.grows turn.turned
+    (g.met.H.RecordHandler.early_grows c.args.handler.now) ready kept.job kept.limit
+    turn.same.grows turn.turned
 
 pub returns-in-Some-clause-same : goal.returns-in-Some-clause-same
 returns-in-Some-clause-same g c =
