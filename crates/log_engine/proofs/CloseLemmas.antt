@@ -1,5 +1,5 @@
 -- How a run ends once no more records come.
-use Rattle.std.proofs.Common.{◌≡◌, ◌≢◌, ℕ, ◌+◌, List, [], ◌++◌, length, refl, sym, ap, subst, ◌∙◌, arith, inr, append-nil}
+use Rattle.std.proofs.Common.{◌≡◌, ◌≢◌, ℕ, List, [], ◌++◌, refl, sym, ap, subst, ◌∙◌, arith, inr, append-nil}
 use Rattle.std.specs.Prelude.{Option, Some, ◌⊎◌}
 use Rattle.std.specs.Io.KnownBytes.{Appends}
 use Rattle.std.proofs.KnownBytes.{Appends-trans}
@@ -10,7 +10,7 @@ use Rattle.log_engine.proofs.OutLemmas.{all_written, none_waits, out_within, pre
 use Rattle.log_engine.proofs.ProgressLemmas.{Ready, broken_turn, halted_turn}
 use Rattle.log_engine.specs.Progress.{After, Halted}
 use Rattle.log_engine.specs.Puts.{Puts, PutsPart}
-use Rattle.log_engine.specs.Run.{Broke, BrokeEnding, Stopped, Took}
+use Rattle.log_engine.specs.Run.{Broke, BrokeEnding, Took}
 use Rattle.log_engine.specs.Tray.{Grows}
 use Rattle.log_engine.specs.Turns.{State, Turned, logical, sent}
 use Rattle.log_engine.specs.declared.gather_sink.GatherSink.{GatherSink}
@@ -19,7 +19,6 @@ use Rattle.rtp_packet.specs.Reading.{limit_of, rest}
 use Rattle.run_report.specs.declared.counts.Counts.{Counts}
 use Rattle.run_report.specs.declared.end.RunEnd.{RunEnd}
 use Rattle.run_report.specs.declared.end.RunEnd.TheVariants as end
-use Rattle.spec_packet.specs.Log.{log_of}
 use Rattle.spec_run.specs.Flows.{Flow, read_from}
 use Rattle.spec_run.specs.LogRuns.{RecordsJob}
 use Rattle.spec_run.specs.Meanings.{IsPrefix}
@@ -71,8 +70,8 @@ module _ {H A B : Type 0} (h : handler.Ghosts H) (s : source.Ghosts A) (k : sink
       → to.gather.now.waiting ≡ []
       → ((hs : List (List ℕ)) → h.stands now.handler hs
       → (h.counts by ≡ (h.job now.handler).counts hs)
-          × Puts (logical k.got now.sink) (logical k.got to) ((h.job now.handler).early hs)
-          ((h.job now.handler).whole hs))
+      × Puts (logical k.got now.sink) (logical k.got to) ((h.job now.handler).early hs)
+      ((h.job now.handler).whole hs))
       → Closed (h.job first.handler) (k.got first.sink.output.now) (k.got to.output.now)
       (h.counts by) halt.packets
   closed_put first now how by to halt same_job none close =
@@ -102,7 +101,7 @@ module _ {H A B : Type 0} (h : handler.Ghosts H) (s : source.Ghosts A) (k : sink
       → Grows (k.got now.sink.output.now) (k.got to.output.now)
       → ((hs : List (List ℕ)) → h.stands now.handler hs
       → PutsPart (logical k.got now.sink) (logical k.got to)
-          ((h.job now.handler).early hs) ((h.job now.handler).whole hs))
+      ((h.job now.handler).early hs) ((h.job now.handler).whole hs))
       → Broke (h.job first.handler) (limit_of first.reader) (read_from s first.input now.input)
       (sent k first.sink to)
   closed_broken first now how to grow halt finished same_job grown close =
@@ -141,5 +140,5 @@ module _ {H A B : Type 0} (h : handler.Ghosts H) (s : source.Ghosts A) (k : sink
         put = all.put;
         most = λ _. all.begins;
         part = subst (λ l. IsPrefix all.out (job.early l) ⊎ BrokeEnding job limit input l left
-          halt.extra all.out) (sym same) (inr ending);
+            halt.extra all.out) (sym same) (inr ending);
       }

@@ -60,7 +60,7 @@ pub handle_failed : {A E : Type 0} (a b : Option (List ℕ)) (r : Result A E)
     → ((hs : List (List ℕ)) → early (hs ++ packet ∷ []) ≡ early hs ++ bytes)
     → OnErr r (AppendsPart a b bytes)
     → OnErr r ((hs : List (List ℕ)) → stands hs
-        → PutsPart a b (early hs) (early (hs ++ packet ∷ [])))
+    → PutsPart a b (early hs) (early (hs ++ packet ∷ [])))
 handle_failed a b r early stands packet bytes more part =
     let one = λ (p : AppendsPart a b bytes) (hs : List (List ℕ)) (_ : stands hs).
     puts_part a b (early hs) bytes (early (hs ++ packet ∷ [])) (more hs) p in
@@ -75,5 +75,5 @@ same_through k law s0 s1 s2 p q = record {
   same = law s0.output.now s1.output.now s2.output.now p.same q.same;
   beside = q.beside ∙ p.beside;
   grows = Grows-through (k.got s0.output.now) (k.got s1.output.now) (k.got s2.output.now) p.grows
-    q.grows;
+      q.grows;
 }

@@ -1,14 +1,14 @@
 -- How a run goes on, turn by turn.
-use Rattle.std.proofs.Common.{◌≡◌, ◌≢◌, ℕ, ◌+◌, ◌*◌, ◌≤◌, List, [], ◌∷◌, ◌++◌, length, refl, sym, ap, subst, ◌∙◌, arith, inl, inr, append-nil, append_assoc, length-append}
-use Rattle.std.specs.Prelude.{Option, ◌⊎◌, None, Some}
+use Rattle.std.proofs.Common.{◌≡◌, ℕ, ◌≤◌, List, [], ◌∷◌, ◌++◌, length, refl, sym, ap, subst, ◌∙◌, arith, inl, inr, append-nil, append_assoc, length-append}
+use Rattle.std.specs.Prelude.{Option, ◌⊎◌}
 use Rattle.std.specs.Io.KnownBytes.{Appends, Consumes, Keeps, append_known}
 use Rattle.std.proofs.KnownBytes.{Appends-kept, Appends-nil, Appends-trans, Consumes-nil}
 use Rattle.amr_io.specs.declared.sink.Sink as sink
 use Rattle.amr_io.specs.declared.source.Source as source
 use Rattle.log_engine.proofs.Growing.{EarlyGrows}
-use Rattle.log_engine.proofs.OutLemmas.{Within, all_written, none_waits, out_within, prefix_refl, prefix_through}
+use Rattle.log_engine.proofs.OutLemmas.{all_written, none_waits, out_within, prefix_refl, prefix_through}
 use Rattle.log_engine.proofs.ReadLemmas.{all_read, moved_length, near_more, one_log, one_record, took_more, why_on}
-use Rattle.log_engine.specs.Progress.{Halted, Progress, Underway, Wrote}
+use Rattle.log_engine.specs.Progress.{Halted, Underway, Wrote}
 use Rattle.log_engine.specs.Puts.{Puts, PutsPart}
 use Rattle.log_engine.specs.Run.{Broke, Took}
 use Rattle.log_engine.specs.Tray.{Grows}
@@ -21,7 +21,7 @@ use Rattle.rtp_packet.specs.Record.{IsWhole}
 use Rattle.rtp_packet.specs.declared.log_reader.LogReader.{LogReader}
 use Rattle.run_report.specs.declared.end.RunEnd.{RunEnd}
 use Rattle.spec_packet.specs.Log.{IsPartial, log_of}
-use Rattle.spec_run.specs.Flows.{Flow, read_from}
+use Rattle.spec_run.specs.Flows.{read_from}
 use Rattle.spec_run.specs.LogRuns.{MOST_HELD, RecordsJob}
 use Rattle.spec_run.specs.Meanings.{IsPrefix}
 
@@ -61,7 +61,7 @@ wrote_on : {B : Type 0} (k : sink.Ghosts B) (s0 s1 s2 : GatherSink B) (octets : 
 wrote_on k s0 s1 s2 octets w p = record {
   out = w.out ++ p.0;
   put = Appends-trans (k.got s0.output.now) (k.got s1.output.now) (k.got s2.output.now) w.out p.0
-    w.put p.1;
+      w.put p.1;
   begins = prefix_through octets w.out (w.out ++ p.0) w.begins (p.0, refl);
 }
 
@@ -208,7 +208,7 @@ module _ {H A B : Type 0} (h : handler.Ghosts H) (s : source.Ghosts A) (k : sink
           near = near_after first now next t.packet t.more r t.brought;
           put = subst (λ l. Appends got out' (job.early l)) is put;
           written = wrote_on k first.sink now.sink next.sink (job.early u.done)
-            u.progress.written grown;
+              u.progress.written grown;
         };
         size = subst (λ l. length (log_of l ++ rest next.reader) ≡ taken_of next.reader) is size;
       }
@@ -288,16 +288,16 @@ module _ {H A B : Type 0} (h : handler.Ghosts H) (s : source.Ghosts A) (k : sink
         extra = m.extra;
         stopped = record {
           took = subst (λ l. Took limit (read_from s first.input next.input) l left m.extra)
-            same took;
+              same took;
           partial = m.partial;
           near = m.near;
           why = why_on how (s.left first.input) (s.left now.input) (log_of hs ++ left) m.more
-            left m.extra
-          (taken_of next.reader) limit (limit_of next.reader) on size limits m.why;
+              left m.extra
+              (taken_of next.reader) limit (limit_of next.reader) on size limits m.why;
         };
         stood = subst (λ (x : H). h.stands x hs) (sym m.idle) u.stood;
         put = subst (λ (x : GatherSink B). Appends got (k.got x.output.now) (job.early hs))
-          (sym m.still) put;
+            (sym m.still) put;
         empty = ap (λ (x : GatherSink B). x.gather.now.waiting) m.still ∙ none;
       }
 
@@ -394,7 +394,7 @@ module _ {H A B : Type 0} (h : handler.Ghosts H) (s : source.Ghosts A) (k : sink
           written = record {
             out = job.early [];
             put = all_written got (k.got to.output.now) to.gather.now.waiting (job.early [])
-              none' all;
+                none' all;
             begins = prefix_refl (job.early []);
           };
         };

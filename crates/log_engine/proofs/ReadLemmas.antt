@@ -5,7 +5,7 @@ use Rattle.std.specs.Io.KnownBytes.{Consumes}
 use Rattle.std.proofs.KnownBytes.{Consumes-trans}
 use Rattle.std.proofs.lemmas.Grind.{flat_map-append}
 use Rattle.amr_io.specs.declared.source.Source as source
-use Rattle.log_engine.specs.Run.{Ended, Passed, Took, Why}
+use Rattle.log_engine.specs.Run.{Took, Why}
 use Rattle.rtp_packet.specs.Reading.{Exhausts}
 use Rattle.run_report.specs.declared.end.RunEnd.{RunEnd}
 use Rattle.run_report.specs.declared.end.RunEnd.TheVariants as end

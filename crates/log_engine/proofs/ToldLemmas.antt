@@ -2,7 +2,7 @@
 use Rattle.std.proofs.Common.{◌≡◌, ◌≢◌, ℕ, ◌+◌, ◌-◌, ◌≤◌, ◌<◌, true, false, cond, List, [], ◌∷◌, ◌++◌, length, take, drop, refl, sym, ap, subst, ◌∙◌, arith, inl, inr, append-nil, append_assoc, length-append, take-append-drop}
 use Rattle.std.specs.Prelude.{Option, None, Some, nat_lt, ◌⊎◌}
 use Rattle.std.specs.List.{fold}
-use Rattle.std.specs.Io.KnownBytes.{Appends, Consumes}
+use Rattle.std.specs.Io.KnownBytes.{Consumes}
 use Rattle.std.proofs.Math.Seq.{take-append_seam, take-append-add}
 use Rattle.std.proofs.lemmas.Bool.{le-ltb, lt-ltb}
 use Rattle.std.proofs.lemmas.List.{append_cancel_left, take-append-le, take_all}
@@ -10,7 +10,7 @@ use Rattle.std.proofs.lemmas.List.Concat.{flat_map-append}
 use Rattle.std.proofs.lemmas.List.Sums.{fold-append}
 use Rattle.log_engine.proofs.Growing.{EarlyGrows, WholeGrows}
 use Rattle.log_engine.proofs.OutLemmas.{prefix_through}
-use Rattle.log_engine.specs.Run.{Broke, BrokeEnding, Ended, Passed, Stopped, Took, Why}
+use Rattle.log_engine.specs.Run.{Broke, BrokeEnding, Ended, Passed, Stopped, Took}
 use Rattle.rtp_packet.specs.Reading.{Exhausts}
 use Rattle.run_report.specs.declared.end.RunEnd.{RunEnd}
 use Rattle.run_report.specs.declared.end.RunEnd.TheVariants as end

@@ -1,10 +1,10 @@
 -- What a reader gave, in the words of a turn.
-use Rattle.std.proofs.Common.{◌≡◌, ℕ, ◌+◌, ◌≤◌, ◌<◌, List, [], ◌∷◌, ◌++◌, length, refl, sym, ap, subst, arith, append-nil, Result}
-use Rattle.std.specs.Prelude.{Option, Ok, Err}
+use Rattle.std.proofs.Common.{◌≡◌, ℕ, ◌≤◌, ◌<◌, List, [], ◌∷◌, ◌++◌, length, refl, sym, ap, subst, arith, append-nil, Result}
+use Rattle.std.specs.Prelude.{Option}
 use Rattle.std.specs.Io.KnownBytes.{Consumes}
 use Rattle.amr_io.specs.declared.source.Failed.{Failed}
 use Rattle.amr_io.specs.declared.source.Source as source
-use Rattle.log_engine.specs.Run.{Ended, Passed, Why}
+use Rattle.log_engine.specs.Run.{Ended, Why}
 use Rattle.log_engine.specs.Turns.{Brought, Missed, State, Went}
 use Rattle.rtp_packet.specs.Lent.{Brings, Gives, GoesOn}
 use Rattle.rtp_packet.specs.Reading.{Exhausts, Stops, limit_of, rest, taken_of}
@@ -13,7 +13,7 @@ use Rattle.rtp_packet.specs.declared.next.Next.{Next}
 use Rattle.run_report.specs.declared.end.RunEnd.{RunEnd}
 use Rattle.run_report.specs.declared.end.RunEnd.TheVariants as end
 use Rattle.spec_run.specs.Flows.{Flow, read_from}
-use Rattle.spec_run.specs.LogRuns.{MOST_HELD, rest_end}
+use Rattle.spec_run.specs.LogRuns.{rest_end}
 
 -- a reader takes no more than its limit: a promise of the reader's type, which its contracts don't repeat
 within_limit : (reader : LogReader) → taken_of reader ≤ limit_of reader

@@ -1,6 +1,5 @@
 -- A run did what its job means.
-use Rattle.std.proofs.Common.{◌≡◌, ◌≢◌, ℕ, List, [], ◌++◌, length, refl, sym, ap, subst, ◌∙◌, append-nil}
-use Rattle.std.specs.Prelude.{Option, Some}
+use Rattle.std.proofs.Common.{◌≡◌, ◌≢◌, ℕ, List, ◌++◌, length, refl, sym, ap, subst, ◌∙◌, append-nil}
 use Rattle.std.specs.Io.KnownBytes.{Appends, Consumes}
 use Rattle.log_engine.proofs.Growing.{EarlyGrows, WholeGrows}
 use Rattle.log_engine.proofs.ToldLemmas.{broke_near, broke_prefix, cut_is, nothing_left, read_front, says}
@@ -10,8 +9,8 @@ use Rattle.run_report.specs.declared.end.RunEnd.{RunEnd}
 use Rattle.run_report.specs.declared.end.RunEnd.TheVariants as end
 use Rattle.spec_packet.specs.Log.{cut, log_of}
 use Rattle.spec_run.specs.Flows.{FaultsOf, Flow}
-use Rattle.spec_run.specs.LogRuns.{RecordsJob, log_meaning, records_of}
-use Rattle.spec_run.specs.Meanings.{IsPrefix, Work, Works}
+use Rattle.spec_run.specs.LogRuns.{RecordsJob, log_meaning}
+use Rattle.spec_run.specs.Meanings.{Work, Works}
 
 -- a run that stopped met no failed write
 not_written : (limit : ℕ) (input : Flow) (hs : List (List ℕ)) (rest extra : List ℕ) (how : RunEnd)
@@ -27,15 +26,16 @@ pub finished_works : (job : RecordsJob) (limit : ℕ) (w : Work) (hs : List (Lis
     → FaultsOf w.report.end w.input w.output → Works (log_meaning limit job) w
 finished_works job limit w hs rest extra t ok put counts faults = record {
   served = λ _ all e.
-    let said = says limit w.input hs rest extra w.report.end t ok all e in
-    record {
-      end = said.ends;
-      out = subst (λ l. Appends w.output.told w.output.told' (job.whole l)) (sym said.records) put;
-      counts = counts ∙ ap job.counts (sym said.records);
-    };
+      let said = says limit w.input hs rest extra w.report.end t ok all e in
+      record {
+        end = said.ends;
+        out = subst (λ l. Appends w.output.told w.output.told' (job.whole l))
+          (sym said.records) put;
+        counts = counts ∙ ap job.counts (sym said.records);
+      };
   leaves = record {
     nothing = λ _ done. nothing_left limit w.input hs rest extra
-      (subst (Stopped limit w.input hs rest extra) done t);
+        (subst (Stopped limit w.input hs rest extra) done t);
     untouched = λ never. absurd cc;
   };
   read_fault = λ e. absurd (ok e);

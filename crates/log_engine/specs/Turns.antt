@@ -24,6 +24,7 @@ pub record State (H A B : Type 0) : Type 0 where
   pub input : A
   pub sink : GatherSink B
 
+-- a run stands so
 abbrev pub state : {H A B : Type 0} → H → LogReader → A → GatherSink B → State H A B
 state h r i s = record { handler = h; reader = r; input = i; sink = s }
 

@@ -82,8 +82,8 @@ impl Gather {
     pub fn push(&mut self, octets: &[u8])
         requires { self.old.used + length octets.now ≤ self.old.room }
         ensures { self.new ≡ record self.old {
-            waiting = self.old.waiting ++ octets.now;
-            used = self.old.used + length octets.now;
+          waiting = self.old.waiting ++ octets.now;
+          used = self.old.used + length octets.now;
         } }
     {
         put_at(&mut self.tray, self.used, octets);

@@ -74,8 +74,8 @@ impl<'a, O: Sink> Sink for GatherSink<'a, O> {
     ghost reflexive = { λ s. (refl, O.reflexive s.output.now, ([], Appends-nil _)) };
 
     ghost transitive = { λ a b c p q. (
-        q.0 ∙ p.0,
-        O.transitive _ _ _ p.1 q.1,
-        (p.2.0 ++ q.2.0, Appends-trans _ _ _ _ _ p.2.1 q.2.1)
+      q.0 ∙ p.0,
+      O.transitive _ _ _ p.1 q.1,
+      (p.2.0 ++ q.2.0, Appends-trans _ _ _ _ _ p.2.1 q.2.1),
     ) };
 }

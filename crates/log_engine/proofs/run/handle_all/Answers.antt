@@ -1,12 +1,10 @@
-use Rattle.std.proofs.Common.{[], arith, ap, length, refl, ◌∙◌}
+use Rattle.std.proofs.Common.{arith, ap, length, refl, ◌∙◌}
 use Rattle.log_engine.proofs.CloseLemmas.{after_turn}
-use Rattle.log_engine.proofs.FaultLemmas.{faults_on}
 use Rattle.log_engine.proofs.GrowsLemmas.{same_through}
 use Rattle.log_engine.proofs.ProgressLemmas.{begin_broken, begun, handled_turn, ready_of, way_broken}
 use Rattle.log_engine.proofs.ReadLemmas.{turn_size}
-use Rattle.log_engine.specs.Turns.{sent, state}
+use Rattle.log_engine.specs.Turns.{state}
 use Rattle.rtp_packet.specs.Reading.{rest}
-use Rattle.spec_run.specs.Flows.{read_from}
 use Rattle.log_engine.proofs.run.handle_all.Goals as goal
 
 pub returns-in-Err-clause-after : goal.returns-in-Err-clause-after
@@ -40,7 +38,7 @@ records-init g c =
       calm_out = began.cause;
       same = began.same;
       under = begun g.H.RecordHandler g.I.Source g.O.Sink first c.begin.new.handler c.begin.new.sink
-      c.requires.empty began.empty fresh.2 fresh.3 began.done.0 began.done.1;
+          c.requires.empty began.empty fresh.2 fresh.3 began.done.0 began.done.1;
     }
 
 pub records-preserved : goal.records-preserved
@@ -72,7 +70,7 @@ records-preserved g c =
       calm_out = turn.faults.1 ∙ way.cause ∙ kept.calm_out;
       same = same c.args.sink.now paused.sink next.sink before turn.same;
       under = handled_turn g.H.RecordHandler g.I.Source g.O.Sink first paused next ready kept.job
-      kept.limit turn.same.grows handled;
+          kept.limit turn.same.grows handled;
     }
 
 pub records-smaller : goal.records-smaller

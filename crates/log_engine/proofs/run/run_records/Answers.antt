@@ -1,4 +1,4 @@
-use Rattle.std.proofs.Common.{refl, ◌∙◌}
+use Rattle.std.proofs.Common.{refl}
 use Rattle.log_engine.proofs.CloseLemmas.{closed_broken, closed_put, halted_of, never_memory}
 use Rattle.log_engine.proofs.FaultLemmas.{calm_at, failed_on, faults_on}
 use Rattle.log_engine.proofs.WorksLemmas.{finished_works, read_works, write_works}
