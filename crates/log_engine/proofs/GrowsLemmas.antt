@@ -20,7 +20,8 @@ Grows-through a b c p q = (p.0 ++ q.0, Appends-trans a b c p.0 q.0 p.1 q.1)
 pub Keeps-Appends : (a b : Option (List ℕ)) → Keeps a b → Appends a b []
 Keeps-Appends a b kept = Appends-kept a a b [] (Appends-nil a) kept
 
-pub Grows-writes : {E : Type 0} (a b : Option (List ℕ)) (r : Result ℕ E) (bytes : List ℕ) → Writes a b r bytes → Grows a b
+pub Grows-writes : {E : Type 0} (a b : Option (List ℕ)) (r : Result ℕ E) (bytes : List ℕ)
+    → Writes a b r bytes → Grows a b
 Grows-writes a b (Ok n) bytes wrote = (take n bytes, wrote.2)
 Grows-writes a b (Err e) bytes kept = ([], Keeps-Appends a b kept)
 
@@ -59,7 +60,7 @@ pub handle_failed : {A E : Type 0} (a b : Option (List ℕ)) (r : Result A E)
     → ((hs : List (List ℕ)) → early (hs ++ packet ∷ []) ≡ early hs ++ bytes)
     → OnErr r (AppendsPart a b bytes)
     → OnErr r ((hs : List (List ℕ)) → stands hs
-        → PutsPart a b (early hs) (early (hs ++ packet ∷ [])))
+    → PutsPart a b (early hs) (early (hs ++ packet ∷ [])))
 handle_failed a b r early stands packet bytes more part =
     let one = λ (p : AppendsPart a b bytes) (hs : List (List ℕ)) (_ : stands hs).
     puts_part a b (early hs) bytes (early (hs ++ packet ∷ [])) (more hs) p in
@@ -73,5 +74,6 @@ same_through k law s0 s1 s2 p q = record {
   reference = q.reference ∙ p.reference;
   same = law s0.output.now s1.output.now s2.output.now p.same q.same;
   beside = q.beside ∙ p.beside;
-  grows = Grows-through (k.got s0.output.now) (k.got s1.output.now) (k.got s2.output.now) p.grows q.grows;
+  grows = Grows-through (k.got s0.output.now) (k.got s1.output.now) (k.got s2.output.now) p.grows
+      q.grows;
 }

@@ -1,5 +1,6 @@
 pub mod CloseLemmas
 pub mod FaultLemmas
+pub mod Growing
 pub mod GrowsLemmas
 pub mod OutLemmas
 pub mod ProgressLemmas

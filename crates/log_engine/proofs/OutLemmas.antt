@@ -1,8 +1,7 @@
 -- What is written of what was put out, and what stays of it. Nothing here speaks of records.
-use Rattle.std.proofs.Common.{◌≡◌, ℕ, List, [], ◌∷◌, ◌++◌, refl, sym, ap, subst, ◌∙◌, append-nil, append_assoc}
+use Rattle.std.proofs.Common.{◌≡◌, ℕ, List, [], ◌++◌, refl, sym, ap, subst, ◌∙◌, append-nil, append_assoc}
 use Rattle.std.specs.Prelude.{Option, None, Some}
 use Rattle.std.specs.Io.KnownBytes.{Appends, append_known}
-use Rattle.std.proofs.KnownBytes.{Appends-trans}
 use Rattle.std.proofs.lemmas.List.{append_cancel_left}
 use Rattle.log_engine.specs.Tray.{Grows}
 use Rattle.spec_run.specs.Meanings.{IsPrefix}
@@ -18,13 +17,15 @@ append_known-nil None = refl
 append_known-nil (Some xs) = ap Some (append-nil xs)
 
 -- where nothing waits, what was put out is what was written
-pub none_waits : (got : Option (List ℕ)) (waiting : List ℕ) → waiting ≡ [] → append_known got waiting ≡ got
+pub none_waits : (got : Option (List ℕ)) (waiting : List ℕ) → waiting ≡ []
+    → append_known got waiting ≡ got
 none_waits got waiting none = ap (append_known got) none ∙ append_known-nil got
 
 -- all that was put out is written
 pub all_written : (g0 g : Option (List ℕ)) (waiting all : List ℕ)
     → waiting ≡ [] → Appends g0 (append_known g waiting) all → Appends g0 g all
-all_written g0 g waiting all none put = subst (λ o. Appends g0 o all) (none_waits g waiting none) put
+all_written g0 g waiting all none put =
+    subst (λ o. Appends g0 o all) (none_waits g waiting none) put
 
 -- these octets were written: they begin with `base`, and are a part of `whole`
 pub record Within (got got' : Option (List ℕ)) (base whole : List ℕ) : Type 0 where

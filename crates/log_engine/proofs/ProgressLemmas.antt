@@ -1,13 +1,14 @@
 -- How a run goes on, turn by turn.
-use Rattle.std.proofs.Common.{◌≡◌, ◌≢◌, ℕ, ◌+◌, ◌*◌, ◌≤◌, List, [], ◌∷◌, ◌++◌, length, refl, sym, ap, subst, ◌∙◌, arith, inl, inr, append-nil, append_assoc, length-append}
-use Rattle.std.specs.Prelude.{Option, ◌⊎◌, None, Some}
+use Rattle.std.proofs.Common.{◌≡◌, ℕ, ◌≤◌, List, [], ◌∷◌, ◌++◌, length, refl, sym, ap, subst, ◌∙◌, arith, inl, inr, append-nil, append_assoc, length-append}
+use Rattle.std.specs.Prelude.{Option, ◌⊎◌}
 use Rattle.std.specs.Io.KnownBytes.{Appends, Consumes, Keeps, append_known}
 use Rattle.std.proofs.KnownBytes.{Appends-kept, Appends-nil, Appends-trans, Consumes-nil}
 use Rattle.amr_io.specs.declared.sink.Sink as sink
 use Rattle.amr_io.specs.declared.source.Source as source
-use Rattle.log_engine.proofs.OutLemmas.{Within, all_written, none_waits, out_within, prefix_refl, prefix_through}
+use Rattle.log_engine.proofs.Growing.{EarlyGrows}
+use Rattle.log_engine.proofs.OutLemmas.{all_written, none_waits, out_within, prefix_refl, prefix_through}
 use Rattle.log_engine.proofs.ReadLemmas.{all_read, moved_length, near_more, one_log, one_record, took_more, why_on}
-use Rattle.log_engine.specs.Progress.{Halted, Progress, Underway, Wrote}
+use Rattle.log_engine.specs.Progress.{Halted, Underway, Wrote}
 use Rattle.log_engine.specs.Puts.{Puts, PutsPart}
 use Rattle.log_engine.specs.Run.{Broke, Took}
 use Rattle.log_engine.specs.Tray.{Grows}
@@ -20,13 +21,9 @@ use Rattle.rtp_packet.specs.Record.{IsWhole}
 use Rattle.rtp_packet.specs.declared.log_reader.LogReader.{LogReader}
 use Rattle.run_report.specs.declared.end.RunEnd.{RunEnd}
 use Rattle.spec_packet.specs.Log.{IsPartial, log_of}
-use Rattle.spec_run.specs.Flows.{Flow, read_from}
+use Rattle.spec_run.specs.Flows.{read_from}
 use Rattle.spec_run.specs.LogRuns.{MOST_HELD, RecordsJob}
 use Rattle.spec_run.specs.Meanings.{IsPrefix}
-
--- more records put out more
-abbrev pub Grow : RecordsJob → Type 0
-Grow job = (hs more : List (List ℕ)) → IsPrefix (job.early hs) (job.early (hs ++ more))
 
 -- nothing waits, and no record was handled since the last read
 pub record Idle (waiting : List ℕ) (last : List (List ℕ)) : Type 0 where
@@ -34,7 +31,8 @@ pub record Idle (waiting : List ℕ) (last : List (List ℕ)) : Type 0 where
   pub empty : waiting ≡ []
 
 -- where a run stands before a read: a record is held, or nothing waits
-pub record Ready {H A B : Type 0} (h : handler.Ghosts H) (s : source.Ghosts A) (k : sink.Ghosts B) (first now : State H A B) : Type 0 where
+pub record Ready {H A B : Type 0} (h : handler.Ghosts H) (s : source.Ghosts A) (k : sink.Ghosts B)
+    (first now : State H A B) : Type 0 where
   pub under : Underway h s k first now
   pub room : IsWhole (rest now.reader) ⊎ Idle now.sink.gather.now.waiting under.last
 
@@ -62,12 +60,14 @@ wrote_on : {B : Type 0} (k : sink.Ghosts B) (s0 s1 s2 : GatherSink B) (octets : 
     → Wrote (sent k s0 s2) octets
 wrote_on k s0 s1 s2 octets w p = record {
   out = w.out ++ p.0;
-  put = Appends-trans (k.got s0.output.now) (k.got s1.output.now) (k.got s2.output.now) w.out p.0 w.put p.1;
+  put = Appends-trans (k.got s0.output.now) (k.got s1.output.now) (k.got s2.output.now) w.out p.0
+      w.put p.1;
   begins = prefix_through octets w.out (w.out ++ p.0) w.begins (p.0, refl);
 }
 
 -- a record in the place of one that stands elsewhere
-joined : (done last : List (List ℕ)) (p : List ℕ) → (done ++ last) ++ p ∷ [] ≡ done ++ (last ++ p ∷ [])
+joined : (done last : List (List ℕ)) (p : List ℕ)
+    → (done ++ last) ++ p ∷ [] ≡ done ++ (last ++ p ∷ [])
 joined done last p = append_assoc done last (p ∷ [])
 
 module _ {H A B : Type 0} (h : handler.Ghosts H) (s : source.Ghosts A) (k : sink.Ghosts B) where
@@ -133,22 +133,27 @@ module _ {H A B : Type 0} (h : handler.Ghosts H) (s : source.Ghosts A) (k : sink
   ready_of first now to u kept grown (inl whole) =
       record { under = moved_on first now to u kept grown; room = inl whole }
   ready_of first now to u kept grown (inr none) =
-      flushed first (state now.handler now.reader now.input to) (moved_on first now to u kept grown) none
+      flushed first (state now.handler now.reader now.input to)
+      (moved_on first now to u kept grown) none
 
   -- how many octets the records and the rest have, once one came
-  size_after : (first now next : State H A B) (packet more : List ℕ) → (u : Underway h s k first now)
+  size_after : (first now next : State H A B) (packet more : List ℕ)
+      → (u : Underway h s k first now)
       → Brought (read_from s now.input next.input) now.reader next.reader packet more
-      → length (log_of ((u.done ++ u.last) ++ packet ∷ []) ++ rest next.reader) ≡ taken_of next.reader
+      → length (log_of ((u.done ++ u.last) ++ packet ∷ []) ++ rest next.reader)
+      ≡ taken_of next.reader
   size_after first now next packet more u b =
       let joins = one_log packet (rest now.reader) (rest next.reader) more b.joins in
       moved_length (u.done ++ u.last) (packet ∷ []) (rest now.reader) (rest next.reader) more
       (taken_of now.reader) (taken_of next.reader) joins u.size b.went.taken
 
   -- what was read, once a record came
-  took_after : (first now next : State H A B) (packet more : List ℕ) → (u : Underway h s k first now)
+  took_after : (first now next : State H A B) (packet more : List ℕ)
+      → (u : Underway h s k first now)
       → limit_of now.reader ≡ limit_of first.reader
       → Brought (read_from s now.input next.input) now.reader next.reader packet more
-      → Took (limit_of first.reader) (read_from s first.input next.input) (u.done ++ (u.last ++ packet ∷ [])) (rest next.reader) []
+      → Took (limit_of first.reader) (read_from s first.input next.input)
+      (u.done ++ (u.last ++ packet ∷ [])) (rest next.reader) []
   took_after first now next packet more u same_limit b =
       let hs : List (List ℕ) = u.done ++ u.last in
       let limit : ℕ = limit_of first.reader in
@@ -157,17 +162,21 @@ module _ {H A B : Type 0} (h : handler.Ghosts H) (s : source.Ghosts A) (k : sink
       let size = size_after first now next packet more u b in
       let within : length (log_of (hs ++ packet ∷ []) ++ left) ≤ limit =
       omega (arith, size, b.went.within, b.went.limit, same_limit) in
-      let took = took_more s first.input now.input next.input limit hs (packet ∷ []) (rest now.reader) left more []
+      let took = took_more s first.input now.input next.input limit hs (packet ∷ [])
+      (rest now.reader) left more []
       u.progress.took b.went.took joins (one_record packet b.short) within in
-      subst (λ l. Took limit (read_from s first.input next.input) l left []) (joined u.done u.last packet) took
+      subst (λ l. Took limit (read_from s first.input next.input) l left [])
+      (joined u.done u.last packet) took
 
   -- what was handled since the last read, and what is left, were held then
   near_after : (first now next : State H A B) (packet more : List ℕ) → (r : Ready h s k first now)
       → Brought (read_from s now.input next.input) now.reader next.reader packet more
       → length (log_of (r.under.last ++ packet ∷ []) ++ rest next.reader) ≤ MOST_HELD
   near_after first now next packet more r b =
-      let came = near_turn now.reader more now.sink.gather.now.waiting r.under.last r.room b.went.held in
-      near_more r.under.last packet (rest now.reader) (rest next.reader) more b.joins r.under.progress.near b.near came
+      let came = near_turn now.reader more now.sink.gather.now.waiting r.under.last r.room
+      b.went.held in
+      near_more r.under.last packet (rest now.reader) (rest next.reader) more b.joins
+      r.under.progress.near b.near came
 
   -- where a run stands after a record was handled
   pub handled_turn : (first now next : State H A B) → Ready h s k first now
@@ -187,7 +196,8 @@ module _ {H A B : Type 0} (h : handler.Ghosts H) (s : source.Ghosts A) (k : sink
       let puts : Puts out out' (job.early hs) (job.early (hs ++ ps)) =
       subst (λ (j : RecordsJob). Puts out out' (j.early hs) (j.early (hs ++ ps))) same_job step.1 in
       let more = Appends-trans got out out' (job.early hs) puts.more u.progress.put puts.put in
-      let put : Appends got out' (job.early (hs ++ ps)) = subst (Appends got out') (sym puts.grown) more in
+      let put : Appends got out' (job.early (hs ++ ps)) =
+      subst (Appends got out') (sym puts.grown) more in
       let size = size_after first now next t.packet t.more u t.brought in
       record {
         done = u.done;
@@ -197,17 +207,19 @@ module _ {H A B : Type 0} (h : handler.Ghosts H) (s : source.Ghosts A) (k : sink
           took = took_after first now next t.packet t.more u same_limit t.brought;
           near = near_after first now next t.packet t.more r t.brought;
           put = subst (λ l. Appends got out' (job.early l)) is put;
-          written = wrote_on k first.sink now.sink next.sink (job.early u.done) u.progress.written grown;
+          written = wrote_on k first.sink now.sink next.sink (job.early u.done)
+              u.progress.written grown;
         };
         size = subst (λ l. length (log_of l ++ rest next.reader) ≡ taken_of next.reader) is size;
       }
 
   -- where a run stands after a write failed while a record was handled
-  pub broken_turn : (first now next : State H A B) → Grow (h.job first.handler)
+  pub broken_turn : (first now next : State H A B) → EarlyGrows (h.job first.handler)
       → Ready h s k first now → h.job now.handler ≡ h.job first.handler
       → limit_of now.reader ≡ limit_of first.reader
       → Grows (k.got now.sink.output.now) (k.got next.sink.output.now) → HandledPart h s k now next
-      → Broke (h.job first.handler) (limit_of first.reader) (read_from s first.input next.input) (sent k first.sink next.sink)
+      → Broke (h.job first.handler) (limit_of first.reader) (read_from s first.input next.input)
+      (sent k first.sink next.sink)
   broken_turn first now next grow r same_job same_limit grown t =
       let u = r.under in
       let job : RecordsJob = h.job first.handler in
@@ -218,13 +230,15 @@ module _ {H A B : Type 0} (h : handler.Ghosts H) (s : source.Ghosts A) (k : sink
       let ps : List (List ℕ) = t.packet ∷ [] in
       let is : hs ++ ps ≡ u.done ++ (u.last ++ ps) = joined u.done u.last t.packet in
       let puts : PutsPart out out' (job.early hs) (job.early (hs ++ ps)) =
-      subst (λ (j : RecordsJob). PutsPart out out' (j.early hs) (j.early (hs ++ ps))) same_job (t.each hs u.stood) in
+      subst (λ (j : RecordsJob). PutsPart out out' (j.early hs) (j.early (hs ++ ps))) same_job
+      (t.each hs u.stood) in
       let put : Appends got out' (job.early hs ++ puts.part) =
       Appends-trans got out out' (job.early hs) puts.part u.progress.put puts.put in
       let whole : IsPrefix (job.early hs ++ puts.part) (job.early (u.done ++ (u.last ++ ps))) =
       subst (λ l. IsPrefix (job.early hs ++ puts.part) (job.early l)) is puts.within in
       let w = u.progress.written in
-      let all = out_within got (k.got now.sink.output.now) (k.got next.sink.output.now) next.sink.gather.now.waiting
+      let all = out_within got (k.got now.sink.output.now) (k.got next.sink.output.now)
+      next.sink.gather.now.waiting
       (job.early u.done) (job.early hs ++ puts.part) (job.early (u.done ++ (u.last ++ ps)))
       w.out w.put w.begins grown put whole (grow u.done (u.last ++ ps)) in
       record {
@@ -242,7 +256,8 @@ module _ {H A B : Type 0} (h : handler.Ghosts H) (s : source.Ghosts A) (k : sink
 
   -- where a run stands that stopped
   pub halted_turn : (first now next : State H A B) (how : RunEnd) → Ready h s k first now
-      → limit_of now.reader ≡ limit_of first.reader → Missed s now next how → Halted h s k first next how
+      → limit_of now.reader ≡ limit_of first.reader → Missed s now next how
+      → Halted h s k first next how
   halted_turn first now next how r same_limit m =
       let u = r.under in
       let job : RecordsJob = h.job first.handler in
@@ -254,28 +269,35 @@ module _ {H A B : Type 0} (h : handler.Ghosts H) (s : source.Ghosts A) (k : sink
       let same : hs ++ [] ≡ hs = append-nil hs in
       let none : waiting ≡ [] =
       none_held now.reader m.more left waiting u.last r.room m.went.held m.joins m.partial in
-      let grown = moved_length hs [] (rest now.reader) left m.more (taken_of now.reader) (taken_of next.reader) m.joins u.size m.went.taken in
+      let grown = moved_length hs [] (rest now.reader) left m.more (taken_of now.reader)
+      (taken_of next.reader) m.joins u.size m.went.taken in
       let size : length (log_of hs ++ left) ≡ taken_of next.reader =
       subst (λ l. length (log_of l ++ left) ≡ taken_of next.reader) same grown in
       let limits : limit_of next.reader ≡ limit = m.went.limit ∙ same_limit in
-      let within : length (log_of (hs ++ []) ++ left) ≤ limit = omega (arith, grown, m.went.within, limits) in
-      let took = took_more s first.input now.input next.input limit hs [] (rest now.reader) left m.more m.extra
+      let within : length (log_of (hs ++ []) ++ left) ≤ limit =
+      omega (arith, grown, m.went.within, limits) in
+      let took = took_more s first.input now.input next.input limit hs [] (rest now.reader) left
+      m.more m.extra
       u.progress.took m.went.took m.joins tt within in
-      let on = all_read s first.input now.input limit hs (rest now.reader) left m.more u.progress.took m.joins in
+      let on = all_read s first.input now.input limit hs (rest now.reader) left m.more
+      u.progress.took m.joins in
       let put : Appends got (k.got now.sink.output.now) (job.early hs) =
       all_written got (k.got now.sink.output.now) waiting (job.early hs) none u.progress.put in
       record {
         packets = hs;
         extra = m.extra;
         stopped = record {
-          took = subst (λ l. Took limit (read_from s first.input next.input) l left m.extra) same took;
+          took = subst (λ l. Took limit (read_from s first.input next.input) l left m.extra)
+              same took;
           partial = m.partial;
           near = m.near;
-          why = why_on how (s.left first.input) (s.left now.input) (log_of hs ++ left) m.more left m.extra
-          (taken_of next.reader) limit (limit_of next.reader) on size limits m.why;
+          why = why_on how (s.left first.input) (s.left now.input) (log_of hs ++ left) m.more
+              left m.extra
+              (taken_of next.reader) limit (limit_of next.reader) on size limits m.why;
         };
         stood = subst (λ (x : H). h.stands x hs) (sym m.idle) u.stood;
-        put = subst (λ (x : GatherSink B). Appends got (k.got x.output.now) (job.early hs)) (sym m.still) put;
+        put = subst (λ (x : GatherSink B). Appends got (k.got x.output.now) (job.early hs))
+            (sym m.still) put;
         empty = ap (λ (x : GatherSink B). x.gather.now.waiting) m.still ∙ none;
       }
 
@@ -284,14 +306,17 @@ module _ {H A B : Type 0} (h : handler.Ghosts H) (s : source.Ghosts A) (k : sink
       → first.sink.gather.now.waiting ≡ []
       → PutsPart (logical k.got first.sink) (logical k.got to) [] ((h.job first.handler).early [])
       → Grows (k.got first.sink.output.now) (k.got to.output.now)
-      → Broke (h.job first.handler) (limit_of first.reader) (read_from s first.input first.input) (sent k first.sink to)
+      → Broke (h.job first.handler) (limit_of first.reader) (read_from s first.input first.input)
+      (sent k first.sink to)
   begin_broken first to none part grown =
       let job : RecordsJob = h.job first.handler in
       let got : Option (List ℕ) = k.got first.sink.output.now in
-      let before : logical k.got first.sink ≡ got = none_waits got first.sink.gather.now.waiting none in
+      let before : logical k.got first.sink ≡ got =
+      none_waits got first.sink.gather.now.waiting none in
       let put : Appends got (logical k.got to) part.part =
       subst (λ o. Appends o (logical k.got to) part.part) before part.put in
-      let out = out_within got got (k.got to.output.now) to.gather.now.waiting [] part.part (job.early []) []
+      let out = out_within got got (k.got to.output.now) to.gather.now.waiting [] part.part
+      (job.early []) []
       (Appends-nil got) (prefix_refl []) grown put part.within (job.early [], refl) in
       record {
         done = [];
@@ -299,7 +324,11 @@ module _ {H A B : Type 0} (h : handler.Ghosts H) (s : source.Ghosts A) (k : sink
         rest = [];
         extra = [];
         out = out.out;
-        took = record { consumed = Consumes-nil (s.left first.input); records = tt; within = omega arith };
+        took = record {
+          consumed = Consumes-nil (s.left first.input);
+          records = tt;
+          within = omega arith;
+        };
         near = omega arith;
         put = out.put;
         most = λ some. absurd (some refl);
@@ -307,17 +336,19 @@ module _ {H A B : Type 0} (h : handler.Ghosts H) (s : source.Ghosts A) (k : sink
       }
 
   -- a run that broke between two records
-  pub way_broken : (first now : State H A B) (to : GatherSink B) → Grow (h.job first.handler)
+  pub way_broken : (first now : State H A B) (to : GatherSink B) → EarlyGrows (h.job first.handler)
       → Underway h s k first now → Keeps (logical k.got now.sink) (logical k.got to)
       → Grows (k.got now.sink.output.now) (k.got to.output.now)
-      → Broke (h.job first.handler) (limit_of first.reader) (read_from s first.input now.input) (sent k first.sink to)
+      → Broke (h.job first.handler) (limit_of first.reader) (read_from s first.input now.input)
+      (sent k first.sink to)
   way_broken first now to grow u kept grown =
       let job : RecordsJob = h.job first.handler in
       let got : Option (List ℕ) = k.got first.sink.output.now in
       let got' : Option (List ℕ) = k.got to.output.now in
       let w = wrote_on k first.sink now.sink to (job.early u.done) u.progress.written grown in
       let all : List ℕ = job.early (u.done ++ u.last) in
-      let put = Appends-kept got (logical k.got now.sink) (logical k.got to) all u.progress.put kept in
+      let put = Appends-kept got (logical k.got now.sink) (logical k.got to) all
+      u.progress.put kept in
       let out = out_within got got' got' to.gather.now.waiting (job.early u.done) all all
       w.out w.put w.begins ([], Appends-nil got') put (prefix_refl all) (grow u.done u.last) in
       record {
@@ -343,7 +374,8 @@ module _ {H A B : Type 0} (h : handler.Ghosts H) (s : source.Ghosts A) (k : sink
       let job : RecordsJob = h.job first.handler in
       let got : Option (List ℕ) = k.got first.sink.output.now in
       let left : Option (List ℕ) = s.left first.input in
-      let before : logical k.got first.sink ≡ got = none_waits got first.sink.gather.now.waiting none in
+      let before : logical k.got first.sink ≡ got =
+      none_waits got first.sink.gather.now.waiting none in
       let all : Appends got (logical k.got to) (job.early []) =
       subst (λ o. Appends o (logical k.got to) (job.early [])) before put in
       let size : length (rest first.reader) ≡ 0 = ap length empty in
@@ -361,7 +393,8 @@ module _ {H A B : Type 0} (h : handler.Ghosts H) (s : source.Ghosts A) (k : sink
           put = all;
           written = record {
             out = job.early [];
-            put = all_written got (k.got to.output.now) to.gather.now.waiting (job.early []) none' all;
+            put = all_written got (k.got to.output.now) to.gather.now.waiting (job.early [])
+                none' all;
             begins = prefix_refl (job.early []);
           };
         };

@@ -5,7 +5,7 @@ use Rattle.std.specs.Io.KnownBytes.{Consumes}
 use Rattle.std.proofs.KnownBytes.{Consumes-trans}
 use Rattle.std.proofs.lemmas.Grind.{flat_map-append}
 use Rattle.amr_io.specs.declared.source.Source as source
-use Rattle.log_engine.specs.Run.{Ended, Passed, Took, Why}
+use Rattle.log_engine.specs.Run.{Took, Why}
 use Rattle.rtp_packet.specs.Reading.{Exhausts}
 use Rattle.run_report.specs.declared.end.RunEnd.{RunEnd}
 use Rattle.run_report.specs.declared.end.RunEnd.TheVariants as end
@@ -21,14 +21,15 @@ moved_rest : (hs ps : List (List ℕ)) (rest rest' more : List ℕ) → rest ++ 
     → (log_of hs ++ rest) ++ more ≡ log_of (hs ++ ps) ++ rest'
 moved_rest hs ps rest rest' more same =
     append_assoc (log_of hs) rest more ∙ ap (λ l. log_of hs ++ l) same
-    ∙ sym (append_assoc (log_of hs) (log_of ps) rest') ∙ ap (λ l. l ++ rest') (sym (log_of-append hs ps))
+    ∙ sym (append_assoc (log_of hs) (log_of ps) rest')
+    ∙ ap (λ l. l ++ rest') (sym (log_of-append hs ps))
 
 pub moved_length : (hs ps : List (List ℕ)) (rest rest' more : List ℕ) (taken taken' : ℕ)
     → rest ++ more ≡ log_of ps ++ rest' → length (log_of hs ++ rest) ≡ taken
     → taken' ≡ taken + length more → length (log_of (hs ++ ps) ++ rest') ≡ taken'
 moved_length hs ps rest rest' more taken taken' same size count =
-    let moved = ap length (sym (moved_rest hs ps rest rest' more same)) in
-    let whole : length (log_of (hs ++ ps) ++ rest') ≡ length ((log_of hs ++ rest) ++ more) = moved in
+    let whole : length (log_of (hs ++ ps) ++ rest') ≡ length ((log_of hs ++ rest) ++ more) =
+    ap length (sym (moved_rest hs ps rest rest' more same)) in
     let parts : length ((log_of hs ++ rest) ++ more) ≡ length (log_of hs ++ rest) + length more =
     length-append (log_of hs ++ rest) more in
     omega arith
@@ -47,15 +48,18 @@ read_before limit input hs rest took =
 pub took_more : {A : Type 0} (s : source.Ghosts A) (i0 i1 i2 : A) (limit : ℕ)
     (hs ps : List (List ℕ)) (rest rest' more extra : List ℕ)
     → Took limit (read_from s i0 i1) hs rest [] → Consumes (s.left i1) (s.left i2) (more ++ extra)
-    → rest ++ more ≡ log_of ps ++ rest' → AreRecords ps → length (log_of (hs ++ ps) ++ rest') ≤ limit
+    → rest ++ more ≡ log_of ps ++ rest' → AreRecords ps
+    → length (log_of (hs ++ ps) ++ rest') ≤ limit
     → Took limit (read_from s i0 i2) (hs ++ ps) rest' extra
 took_more s i0 i1 i2 limit hs ps rest rest' more extra took consumed same each within =
     let read : List ℕ = log_of hs ++ rest in
     let before : Consumes (s.left i0) (s.left i1) read =
     read_before limit (read_from s i0 i1) hs rest took in
     let all : read ++ (more ++ extra) ≡ (log_of (hs ++ ps) ++ rest') ++ extra =
-    sym (append_assoc read more extra) ∙ ap (λ l. l ++ extra) (moved_rest hs ps rest rest' more same) in
-    let through = Consumes-trans (s.left i0) (s.left i1) (s.left i2) read (more ++ extra) before consumed in
+    sym (append_assoc read more extra)
+    ∙ ap (λ l. l ++ extra) (moved_rest hs ps rest rest' more same) in
+    let through = Consumes-trans (s.left i0) (s.left i1) (s.left i2) read (more ++ extra)
+    before consumed in
     record {
       consumed = subst (Consumes (s.left i0) (s.left i2)) all through;
       records = records_append hs ps took.records each;
@@ -83,7 +87,8 @@ pub near_more : (last : List (List ℕ)) (packet rest rest' more : List ℕ)
 near_more last packet rest rest' more same near small (inl none) =
     let before : ℕ = length (log_of last ++ rest) in
     let joins = one_log packet rest rest' more same in
-    let grown = moved_length last (packet ∷ []) rest rest' more before (before + length more) joins refl refl in
+    let grown = moved_length last (packet ∷ []) rest rest' more before (before + length more) joins
+    refl refl in
     omega (arith, near, grown, ap length none)
 near_more last packet rest rest' more same near small (inr none) =
     let alone : log_of (last ++ packet ∷ []) ≡ framed packet =
@@ -105,10 +110,12 @@ pub all_read : {A : Type 0} (s : source.Ghosts A) (i0 i1 : A) (limit : ℕ) (hs 
 all_read s i0 i1 limit hs rest rest' more took same all =
     let before = read_before limit (read_from s i0 i1) hs rest took in
     let joins = append_assoc (log_of hs) rest more ∙ ap (λ l. log_of hs ++ l) same in
-    subst (Exhausts (s.left i0)) joins (exhausted (s.left i0) (s.left i1) (log_of hs ++ rest) more before all)
+    subst (Exhausts (s.left i0)) joins
+    (exhausted (s.left i0) (s.left i1) (log_of hs ++ rest) more before all)
 
 -- why no record came behind the last octets is why none came behind all
-pub why_on : (how : RunEnd) (left0 left : Option (List ℕ)) (all more rest extra : List ℕ) (taken limit limit' : ℕ)
+pub why_on : (how : RunEnd) (left0 left : Option (List ℕ)) (all more rest extra : List ℕ)
+    (taken limit limit' : ℕ)
     → (Exhausts left more → Exhausts left0 all) → length all ≡ taken → limit' ≡ limit
     → Why left more taken limit' rest extra how → Why left0 all (length all) limit rest extra how
 why_on end.Done left0 left all more rest extra taken limit limit' on size same w =

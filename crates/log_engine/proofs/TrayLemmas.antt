@@ -10,15 +10,19 @@ part_as_rest xs i j h =
     sym (drop-take i (j - i) xs) ∙ ap (λ m. drop i (take m xs)) whole
 
 -- octets that are put stand behind those before
-pub put_behind : (old now octets : List ℕ) (from at : ℕ) → from ≤ at → at ≤ length old → take (at + length octets) now ≡ take at old ++ octets
+pub put_behind : (old now octets : List ℕ) (from at : ℕ) → from ≤ at → at ≤ length old
+    → take (at + length octets) now ≡ take at old ++ octets
     → slice_range now from (at + length octets) ≡ slice_range old from at ++ octets
 put_behind old now octets from at h fits e =
     let size : length (take at old) ≡ at = length-take-le at old fits in
-    part_as_rest now from (at + length octets) (omega arith) ∙ ap (drop from) e ∙ drop-append-le from (take at old) octets (omega (arith, size))
+    part_as_rest now from (at + length octets) (omega arith) ∙ ap (drop from) e
+    ∙ drop-append-le from (take at old) octets (omega (arith, size))
     ∙ ap (λ front. front ++ octets) (sym (part_as_rest old from at h))
 
 -- a part without its first n octets is the part from n further on
-pub part_passed : (xs : List ℕ) (i j n : ℕ) → n + i ≤ j → drop n (slice_range xs i j) ≡ slice_range xs (i + n) j
+pub part_passed : (xs : List ℕ) (i j n : ℕ) → n + i ≤ j
+    → drop n (slice_range xs i j) ≡ slice_range xs (i + n) j
 part_passed xs i j n fits =
     let split : j - i ≡ n + (j - (i + n)) = omega arith in
-    ap (λ m. drop n (take m (drop i xs))) split ∙ drop-take n (j - (i + n)) (drop i xs) ∙ ap (take (j - (i + n))) (drop-drop n i xs)
+    ap (λ m. drop n (take m (drop i xs))) split ∙ drop-take n (j - (i + n)) (drop i xs)
+    ∙ ap (take (j - (i + n))) (drop-drop n i xs)

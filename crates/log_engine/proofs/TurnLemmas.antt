@@ -1,10 +1,10 @@
 -- What a reader gave, in the words of a turn.
-use Rattle.std.proofs.Common.{◌≡◌, ℕ, ◌+◌, ◌≤◌, ◌<◌, List, [], ◌∷◌, ◌++◌, length, refl, sym, ap, subst, arith, append-nil, Result}
-use Rattle.std.specs.Prelude.{Option, Ok, Err}
+use Rattle.std.proofs.Common.{◌≡◌, ℕ, ◌≤◌, ◌<◌, List, [], ◌∷◌, ◌++◌, length, refl, sym, ap, subst, arith, append-nil, Result}
+use Rattle.std.specs.Prelude.{Option}
 use Rattle.std.specs.Io.KnownBytes.{Consumes}
 use Rattle.amr_io.specs.declared.source.Failed.{Failed}
 use Rattle.amr_io.specs.declared.source.Source as source
-use Rattle.log_engine.specs.Run.{Ended, Passed, Why}
+use Rattle.log_engine.specs.Run.{Ended, Why}
 use Rattle.log_engine.specs.Turns.{Brought, Missed, State, Went}
 use Rattle.rtp_packet.specs.Lent.{Brings, Gives, GoesOn}
 use Rattle.rtp_packet.specs.Reading.{Exhausts, Stops, limit_of, rest, taken_of}
@@ -13,14 +13,15 @@ use Rattle.rtp_packet.specs.declared.next.Next.{Next}
 use Rattle.run_report.specs.declared.end.RunEnd.{RunEnd}
 use Rattle.run_report.specs.declared.end.RunEnd.TheVariants as end
 use Rattle.spec_run.specs.Flows.{Flow, read_from}
-use Rattle.spec_run.specs.LogRuns.{MOST_HELD, rest_end}
+use Rattle.spec_run.specs.LogRuns.{rest_end}
 
 -- a reader takes no more than its limit: a promise of the reader's type, which its contracts don't repeat
 within_limit : (reader : LogReader) → taken_of reader ≤ limit_of reader
 within_limit reader = reader.limited
 
 -- the answer of a reader, once it is known
-pub gives_at : (left left' : Option (List ℕ)) (old new : LogReader) (r r' : Result Next Failed) → r ≡ r'
+pub gives_at : (left left' : Option (List ℕ)) (old new : LogReader) (r r' : Result Next Failed)
+    → r ≡ r'
     → (w : GoesOn left left' old r new) → Gives left left' w.0 old r' new
 gives_at left left' old new r r' same w =
     subst (λ (q : Result Next Failed). Gives left left' w.0 old q new) same w.1
@@ -57,9 +58,11 @@ brought_of input old new r packet w b = record {
 pub missed_of : {H A B : Type 0} (s : source.Ghosts A) (old new : State H A B) (how : RunEnd)
     (r : Result Next Failed) (extra : List ℕ)
     → (w : GoesOn (s.left old.input) (s.left new.input) old.reader r new.reader)
-    → Consumes (s.left old.input) (s.left new.input) (w.0 ++ extra) → Stops w.0 old.reader new.reader
+    → Consumes (s.left old.input) (s.left new.input) (w.0 ++ extra)
+    → Stops w.0 old.reader new.reader
     → length extra ≤ 1
-    → Why (s.left old.input) w.0 (taken_of new.reader) (limit_of new.reader) (rest new.reader) extra how
+    → Why (s.left old.input) w.0 (taken_of new.reader) (limit_of new.reader) (rest new.reader)
+    extra how
     → new.handler ≡ old.handler → new.sink ≡ old.sink → Missed s old new how
 missed_of s old new how r extra w took stops small why idle still = record {
   more = w.0;
@@ -74,7 +77,8 @@ missed_of s old new how r extra w took stops small why idle still = record {
 }
 
 -- a log that was cut inside a record
-cut_end : (rest : List ℕ) (have : ℕ) → length rest ≡ have → 0 < have → end.LogCut have ≡ rest_end rest
+cut_end : (rest : List ℕ) (have : ℕ) → length rest ≡ have → 0 < have
+    → end.LogCut have ≡ rest_end rest
 cut_end [] have same some = absurd (omega (arith, same, some))
 cut_end (x ∷ xs) have same some = ap end.LogCut (sym same)
 
@@ -84,7 +88,8 @@ pub done_why : (told : Option (List ℕ)) (octets rest : List ℕ)
 done_why told octets rest all none = record { none = refl; all = all; is = ap rest_end (sym none) }
 
 pub cut_why : (told : Option (List ℕ)) (octets rest : List ℕ) (have : ℕ)
-    → Exhausts told octets → length rest ≡ have → 0 < have → Ended told octets rest [] (end.LogCut have)
+    → Exhausts told octets → length rest ≡ have → 0 < have
+    → Ended told octets rest [] (end.LogCut have)
 cut_why told octets rest have all same some =
     record { none = refl; all = all; is = cut_end rest have same some }
 
@@ -93,8 +98,10 @@ pub missed_at : {H A B : Type 0} (s : source.Ghosts A) (old new : State H A B) (
     (r : Result Next Failed)
     → (w : GoesOn (s.left old.input) (s.left new.input) old.reader r new.reader)
     → Consumes (s.left old.input) (s.left new.input) w.0 → Stops w.0 old.reader new.reader
-    → Why (s.left old.input) w.0 (taken_of new.reader) (limit_of new.reader) (rest new.reader) [] how
+    → Why (s.left old.input) w.0 (taken_of new.reader) (limit_of new.reader) (rest new.reader)
+    [] how
     → new.handler ≡ old.handler → new.sink ≡ old.sink → Missed s old new how
 missed_at s old new how r w took stops why idle still =
-    missed_of s old new how r [] w (alone (read_from s old.input new.input) w.0 took) stops (omega arith)
+    missed_of s old new how r [] w (alone (read_from s old.input new.input) w.0 took) stops
+    (omega arith)
     why idle still

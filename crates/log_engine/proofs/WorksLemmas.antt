@@ -1,7 +1,7 @@
 -- A run did what its job means.
-use Rattle.std.proofs.Common.{◌≡◌, ◌≢◌, ℕ, List, [], ◌++◌, length, refl, sym, ap, subst, ◌∙◌, append-nil}
-use Rattle.std.specs.Prelude.{Option, Some}
+use Rattle.std.proofs.Common.{◌≡◌, ◌≢◌, ℕ, List, ◌++◌, length, refl, sym, ap, subst, ◌∙◌, append-nil}
 use Rattle.std.specs.Io.KnownBytes.{Appends, Consumes}
+use Rattle.log_engine.proofs.Growing.{EarlyGrows, WholeGrows}
 use Rattle.log_engine.proofs.ToldLemmas.{broke_near, broke_prefix, cut_is, nothing_left, read_front, says}
 use Rattle.log_engine.specs.Run.{Broke, Stopped, Why}
 use Rattle.run_report.specs.Ends.{IsFinished}
@@ -9,8 +9,8 @@ use Rattle.run_report.specs.declared.end.RunEnd.{RunEnd}
 use Rattle.run_report.specs.declared.end.RunEnd.TheVariants as end
 use Rattle.spec_packet.specs.Log.{cut, log_of}
 use Rattle.spec_run.specs.Flows.{FaultsOf, Flow}
-use Rattle.spec_run.specs.LogRuns.{RecordsJob, log_meaning, records_of}
-use Rattle.spec_run.specs.Meanings.{IsPrefix, Work, Works}
+use Rattle.spec_run.specs.LogRuns.{RecordsJob, log_meaning}
+use Rattle.spec_run.specs.Meanings.{Work, Works}
 
 -- a run that stopped met no failed write
 not_written : (limit : ℕ) (input : Flow) (hs : List (List ℕ)) (rest extra : List ℕ) (how : RunEnd)
@@ -19,20 +19,23 @@ not_written limit input hs rest extra how t e =
     subst (Why input.told (log_of hs ++ rest) (length (log_of hs ++ rest)) limit rest extra) e t.why
 
 -- a run that ended without a fault
-pub finished_works : (job : RecordsJob) (limit : ℕ) (w : Work) (hs : List (List ℕ)) (rest extra : List ℕ)
+pub finished_works : (job : RecordsJob) (limit : ℕ) (w : Work) (hs : List (List ℕ))
+    (rest extra : List ℕ)
     → Stopped limit w.input hs rest extra w.report.end → w.report.end ≢ end.ReadFault
     → Appends w.output.told w.output.told' (job.whole hs) → w.report.counts ≡ job.counts hs
     → FaultsOf w.report.end w.input w.output → Works (log_meaning limit job) w
 finished_works job limit w hs rest extra t ok put counts faults = record {
   served = λ _ all e.
-    let said = says limit w.input hs rest extra w.report.end t ok all e in
-    record {
-      end = said.ends;
-      out = subst (λ l. Appends w.output.told w.output.told' (job.whole l)) (sym said.records) put;
-      counts = counts ∙ ap job.counts (sym said.records);
-    };
+      let said = says limit w.input hs rest extra w.report.end t ok all e in
+      record {
+        end = said.ends;
+        out = subst (λ l. Appends w.output.told w.output.told' (job.whole l))
+          (sym said.records) put;
+        counts = counts ∙ ap job.counts (sym said.records);
+      };
   leaves = record {
-    nothing = λ _ done. nothing_left limit w.input hs rest extra (subst (Stopped limit w.input hs rest extra) done t);
+    nothing = λ _ done. nothing_left limit w.input hs rest extra
+        (subst (Stopped limit w.input hs rest extra) done t);
     untouched = λ never. absurd cc;
   };
   read_fault = λ e. absurd (ok e);
@@ -41,8 +44,9 @@ finished_works job limit w hs rest extra t ok put counts faults = record {
 }
 
 -- a run whose read failed
-pub read_works : (job : RecordsJob) (limit : ℕ) (w : Work) (hs : List (List ℕ)) (rest extra : List ℕ)
-    → ((hs more : List (List ℕ)) → IsPrefix (job.early hs) (job.whole (hs ++ more)))
+pub read_works : (job : RecordsJob) (limit : ℕ) (w : Work) (hs : List (List ℕ))
+    (rest extra : List ℕ)
+    → WholeGrows job
     → w.report.end ≡ end.ReadFault → Stopped limit w.input hs rest extra end.ReadFault
     → Appends w.output.told w.output.told' (job.early hs)
     → FaultsOf w.report.end w.input w.output → Works (log_meaning limit job) w
@@ -68,8 +72,8 @@ read_works job limit w hs rest extra grow is t put faults =
 
 -- a run whose write failed
 pub write_works : (job : RecordsJob) (limit : ℕ) (w : Work)
-    → ((hs more : List (List ℕ)) → IsPrefix (job.early hs) (job.early (hs ++ more)))
-    → ((hs more : List (List ℕ)) → IsPrefix (job.early hs) (job.whole (hs ++ more)))
+    → EarlyGrows job
+    → WholeGrows job
     → w.report.end ≡ end.WriteFault → Broke job limit w.input w.output
     → FaultsOf w.report.end w.input w.output → Works (log_meaning limit job) w
 write_works job limit w grow grow_whole is b faults =

@@ -10,7 +10,8 @@ use Rattle.spec_run.specs.LogRuns.{MOST_HELD, RecordsJob, rest_end}
 use Rattle.spec_run.specs.Meanings.{IsPrefix}
 
 -- the octets read were these records and the rest, and then `extra`
-pub record Took (limit : ℕ) (input : Flow) (packets : List (List ℕ)) (rest extra : List ℕ) : Type 0 where
+pub record Took (limit : ℕ) (input : Flow) (packets : List (List ℕ)) (rest extra : List ℕ)
+    : Type 0 where
   pub consumed : Consumes input.told input.told' ((log_of packets ++ rest) ++ extra)
   pub records : AreRecords packets
   pub within : length (log_of packets ++ rest) ≤ limit
@@ -34,17 +35,21 @@ Why told octets taken limit rest extra end.ReadFault = extra ≡ []
 Why told octets taken limit rest extra end.WriteFault = ⊥
 Why told octets taken limit rest extra end.OutOfMemory = ⊥
 Why told octets taken limit rest extra end.Done = Ended told octets rest extra end.Done
-Why told octets taken limit rest extra (end.LogCut have) = Ended told octets rest extra (end.LogCut have)
+Why told octets taken limit rest extra (end.LogCut have) =
+    Ended told octets rest extra (end.LogCut have)
 
 -- the records of the input are these, and `rest` is less than one more
-pub record Stopped (limit : ℕ) (input : Flow) (packets : List (List ℕ)) (rest extra : List ℕ) (how : RunEnd) : Type 0 where
+pub record Stopped (limit : ℕ) (input : Flow) (packets : List (List ℕ)) (rest extra : List ℕ)
+    (how : RunEnd) : Type 0 where
   pub took : Took limit input packets rest extra
   pub partial : IsPartial rest
   pub near : length rest + length extra ≤ MOST_HELD
-  pub why : Why input.told (log_of packets ++ rest) (length (log_of packets ++ rest)) limit rest extra how
+  pub why : Why input.told (log_of packets ++ rest) (length (log_of packets ++ rest)) limit
+      rest extra how
 
 -- a write failed once the input had stopped: a part of what it means is out
-pub record BrokeEnding (job : RecordsJob) (limit : ℕ) (input : Flow) (packets : List (List ℕ)) (rest extra out : List ℕ) : Type 0 where
+pub record BrokeEnding (job : RecordsJob) (limit : ℕ) (input : Flow) (packets : List (List ℕ))
+    (rest extra out : List ℕ) : Type 0 where
   pub how : RunEnd
   pub stopped : Stopped limit input packets rest extra how
   pub finished : how ≢ end.ReadFault
@@ -61,4 +66,5 @@ pub record Broke (job : RecordsJob) (limit : ℕ) (input output : Flow) : Type 0
   pub near : length (log_of last ++ rest) + length extra ≤ MOST_HELD
   pub put : Appends output.told output.told' out
   pub most : done ≢ [] → IsPrefix (job.early done) out
-  pub part : IsPrefix out (job.early (done ++ last)) ⊎ BrokeEnding job limit input (done ++ last) rest extra out
+  pub part : IsPrefix out (job.early (done ++ last))
+      ⊎ BrokeEnding job limit input (done ++ last) rest extra out

@@ -24,6 +24,7 @@ pub record State (H A B : Type 0) : Type 0 where
   pub input : A
   pub sink : GatherSink B
 
+-- a run stands so
 abbrev pub state : {H A B : Type 0} → H → LogReader → A → GatherSink B → State H A B
 state h r i s = record { handler = h; reader = r; input = i; sink = s }
 
@@ -64,16 +65,19 @@ pub record Brought (input : Flow) (old new : LogReader) (packet more : List ℕ)
   pub unended : IsOpen new
 
 -- a record came and was handled
-pub record Handled {H A B : Type 0} (h : handler.Ghosts H) (s : source.Ghosts A) (k : sink.Ghosts B) (old new : State H A B) : Type 0 where
+pub record Handled {H A B : Type 0} (h : handler.Ghosts H) (s : source.Ghosts A)
+    (k : sink.Ghosts B) (old new : State H A B) : Type 0 where
   pub packet : List ℕ
   pub more : List ℕ
   pub brought : Brought (read_from s old.input new.input) old.reader new.reader packet more
-  pub each : (hs : List (List ℕ)) → h.stands old.handler hs → h.stands new.handler (hs ++ packet ∷ [])
+  pub each : (hs : List (List ℕ)) → h.stands old.handler hs
+      → h.stands new.handler (hs ++ packet ∷ [])
       × Puts (logical k.got old.sink) (logical k.got new.sink)
       ((h.job old.handler).early hs) ((h.job old.handler).early (hs ++ packet ∷ []))
 
 -- a record came, and a write failed while it was handled
-pub record HandledPart {H A B : Type 0} (h : handler.Ghosts H) (s : source.Ghosts A) (k : sink.Ghosts B) (old new : State H A B) : Type 0 where
+pub record HandledPart {H A B : Type 0} (h : handler.Ghosts H) (s : source.Ghosts A)
+    (k : sink.Ghosts B) (old new : State H A B) : Type 0 where
   pub packet : List ℕ
   pub more : List ℕ
   pub brought : Brought (read_from s old.input new.input) old.reader new.reader packet more
@@ -82,19 +86,22 @@ pub record HandledPart {H A B : Type 0} (h : handler.Ghosts H) (s : source.Ghost
       ((h.job old.handler).early hs) ((h.job old.handler).early (hs ++ packet ∷ []))
 
 -- no record came, and nothing was handled
-pub record Missed {H A B : Type 0} (s : source.Ghosts A) (old new : State H A B) (how : RunEnd) : Type 0 where
+pub record Missed {H A B : Type 0} (s : source.Ghosts A) (old new : State H A B) (how : RunEnd)
+    : Type 0 where
   pub more : List ℕ
   pub extra : List ℕ
   pub went : Went (read_from s old.input new.input) old.reader new.reader more extra
   pub joins : rest old.reader ++ more ≡ rest new.reader
   pub partial : IsPartial (rest new.reader)
   pub near : length (rest new.reader) + length extra ≤ MOST_HELD
-  pub why : Why (s.left old.input) more (taken_of new.reader) (limit_of new.reader) (rest new.reader) extra how
+  pub why : Why (s.left old.input) more (taken_of new.reader) (limit_of new.reader)
+      (rest new.reader) extra how
   pub idle : new.handler ≡ old.handler
   pub still : new.sink ≡ old.sink
 
 -- what came of a turn: a record was handled, or the run ends so
-abbrev pub Turned : {H A B : Type 0} → handler.Ghosts H → source.Ghosts A → sink.Ghosts B → State H A B → State H A B → Option RunEnd → Type 0
+abbrev pub Turned : {H A B : Type 0} → handler.Ghosts H → source.Ghosts A → sink.Ghosts B
+    → State H A B → State H A B → Option RunEnd → Type 0
 Turned h s k old new None = Handled h s k old new
 Turned h s k old new (Some end.WriteFault) = HandledPart h s k old new
 Turned h s k old new (Some end.Done) = Missed s old new end.Done

@@ -36,7 +36,8 @@ fn put_at(tray: &mut [u8], at: usize, octets: &[u8])
     requires { at + length octets.now ≤ length tray.old }
 
     ensures size { length tray.new ≡ length tray.old }
-    ensures put { (from : ℕ) → from ≤ at → slice_range tray.new from (at + length octets.now) ≡ slice_range tray.old from at ++ octets.now }
+    ensures put { (from : ℕ) → from ≤ at → slice_range tray.new from (at + length octets.now)
+        ≡ slice_range tray.old from at ++ octets.now }
 {
     tray[at..at + octets.len()].copy_from_slice(octets);
 }
@@ -80,7 +81,10 @@ impl Gather {
     /// Takes octets to those that wait.
     pub fn push(&mut self, octets: &[u8])
         requires { self.old.used + length octets.now ≤ self.old.room }
-        ensures { self.new ≡ record self.old { waiting = self.old.waiting ++ octets.now; used = self.old.used + length octets.now } }
+        ensures { self.new ≡ record self.old {
+          waiting = self.old.waiting ++ octets.now;
+          used = self.old.used + length octets.now;
+        } }
     {
         put_at(&mut self.tray, self.used, octets);
         self.used += octets.len();
@@ -107,7 +111,8 @@ impl Gather {
     ///
     /// `Failed` comes only where the output's faults rose.
     pub fn flush<O: Sink>(&mut self, output: &mut O) -> Result<(), Failed>
-        ensures kept { Keeps (append_known (O.got output.old) self.old.waiting) (append_known (O.got output.new) self.new.waiting) }
+        ensures kept { Keeps (append_known (O.got output.old) self.old.waiting)
+            (append_known (O.got output.new) self.new.waiting) }
         ensures empty { OnOk result ((self.new.waiting ≡ []) × (self.new.used ≡ 0)) }
         ensures room { self.new.room ≡ self.old.room }
         ensures cause { HasCause (O.faults output.old) (O.faults output.new) result }

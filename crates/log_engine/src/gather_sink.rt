@@ -32,9 +32,13 @@ impl<'a, O: Sink> GatherSink<'a, O> {
     ///
     /// `Failed` comes only where the output's faults rose.
     pub fn flush(&mut self) -> Result<(), Failed>
-        ensures kept { Keeps (append_known (O.got self.old.output.now) self.old.gather.now.waiting) (append_known (O.got self.new.output.now) self.new.gather.now.waiting) }
-        ensures empty { OnOk result ((self.new.gather.now.waiting ≡ []) × (self.new.gather.now.used ≡ 0)) }
-        ensures cause { HasCause (O.faults self.old.output.now) (O.faults self.new.output.now) result }
+        ensures kept { Keeps
+            (append_known (O.got self.old.output.now) self.old.gather.now.waiting)
+            (append_known (O.got self.new.output.now) self.new.gather.now.waiting) }
+        ensures empty { OnOk result
+            ((self.new.gather.now.waiting ≡ []) × (self.new.gather.now.used ≡ 0)) }
+        ensures cause { HasCause
+            (O.faults self.old.output.now) (O.faults self.new.output.now) result }
         ensures beside { O.beside self.new.output.now ≡ O.beside self.old.output.now }
         ensures grows { Grows (O.got self.old.output.now) (O.got self.new.output.now) }
         ensures same { O.same self.old.output.now self.new.output.now }
@@ -51,7 +55,8 @@ impl<'a, O: Sink> Sink for GatherSink<'a, O> {
 
     ghost faults = { λ s. O.faults s.output.now };
 
-    ghost same = { λ s t. (t.output.ghost_name ≡ s.output.ghost_name) × O.same s.output.now t.output.now × Grows (O.got s.output.now) (O.got t.output.now) };
+    ghost same = { λ s t. (t.output.ghost_name ≡ s.output.ghost_name)
+        × O.same s.output.now t.output.now × Grows (O.got s.output.now) (O.got t.output.now) };
 
     /// Takes all of `bytes` where there is room for them once what waits is written, and else what the output takes.
     #[inline(always)]
@@ -68,5 +73,9 @@ impl<'a, O: Sink> Sink for GatherSink<'a, O> {
 
     ghost reflexive = { λ s. (refl, O.reflexive s.output.now, ([], Appends-nil _)) };
 
-    ghost transitive = { λ a b c p q. (q.0 ∙ p.0, O.transitive _ _ _ p.1 q.1, (p.2.0 ++ q.2.0, Appends-trans _ _ _ _ _ p.2.1 q.2.1)) };
+    ghost transitive = { λ a b c p q. (
+      q.0 ∙ p.0,
+      O.transitive _ _ _ p.1 q.1,
+      (p.2.0 ++ q.2.0, Appends-trans _ _ _ _ _ p.2.1 q.2.1),
+    ) };
 }

@@ -18,10 +18,10 @@ struct Echo {
 
 impl RecordHandler for Echo {
     ghost job = { λ _. record {
-        early = flat_map (λ (packet : List ℕ). packet);
-        whole = flat_map (λ (packet : List ℕ). packet);
-        counts = λ hs. record no_counts { packets = length hs };
-        lines = lines.None;
+      early = flat_map (λ (packet : List ℕ). packet);
+      whole = flat_map (λ (packet : List ℕ). packet);
+      counts = λ hs. record no_counts { packets = length hs };
+      lines = lines.None;
     } };
 
     ghost stands = { λ echo hs. echo.handled ≡ length hs };
@@ -49,13 +49,13 @@ impl RecordHandler for Echo {
     }
 
     ghost early_grows = { λ _ hs more. (
-        flat_map (λ (packet : List ℕ). packet) more,
-        flat_map-append (λ (packet : List ℕ). packet) hs more
+      flat_map (λ (packet : List ℕ). packet) more,
+      flat_map-append (λ (packet : List ℕ). packet) hs more,
     ) };
 
     ghost whole_grows = { λ _ hs more. (
-        flat_map (λ (packet : List ℕ). packet) more,
-        flat_map-append (λ (packet : List ℕ). packet) hs more
+      flat_map (λ (packet : List ℕ). packet) more,
+      flat_map-append (λ (packet : List ℕ). packet) hs more,
     ) };
 }
 
@@ -83,7 +83,12 @@ fn a_run_ends_as_its_log_and_its_faults_say(rt: HostRuntime) -> Result<(), Fail>
         let mut reader = LogReader::create(rt.alloc(), limit.clamp(1, 99))?;
         let mut gather = Gather::create(rt.alloc(), 4)?;
         let mut sink = GatherSink::new(&mut output, &mut gather);
-        let result = run_records(&mut Echo { handled: 0 }, &mut reader, &mut source, &mut sink);
+        let result = run_records(
+            &mut Echo { handled: 0 },
+            &mut reader,
+            &mut source,
+            &mut sink,
+        );
         assert_eq!(rt;
             result,
             end,

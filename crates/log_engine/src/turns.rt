@@ -23,7 +23,8 @@ pub(crate) fn begin<O: Sink, H: RecordHandler>(
 
     ensures ready { OnOk result (H.ready handler.new × (H.handled handler.new ≡ 0)) }
     ensures done { OnOk result (H.stands handler.new []
-        × Appends (logical O.got sink.old) (logical O.got sink.new) ((H.job handler.old).early [])) }
+        × Appends (logical O.got sink.old) (logical O.got sink.new)
+        ((H.job handler.old).early [])) }
     ensures empty { OnOk result (sink.new.gather.now.waiting ≡ []) }
     ensures failed { OnErr result (PutsPart (logical O.got sink.old) (logical O.got sink.new) []
         ((H.job handler.old).early [])) }

@@ -9,5 +9,6 @@ returns-clause-put c = λ from before.
     let octets = c.args.octets.now in
     let is = c.copy_from_slice.ensures.after in
     put_behind c.args.tray.now _ octets from at before (omega arith)
-    (take-put_mid at (at + length octets - at) c.args.tray.now c.copy_from_slice.new.self (at + length octets) (omega (arith, ap length is)) (omega arith)
+    (take-put_mid at (at + length octets - at) c.args.tray.now c.copy_from_slice.new.self
+    (at + length octets) (omega (arith, ap length is)) (omega arith)
     ∙ ap (λ l. take at c.args.tray.now ++ l) is)

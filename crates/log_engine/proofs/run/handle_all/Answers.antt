@@ -1,12 +1,10 @@
-use Rattle.std.proofs.Common.{[], arith, ap, length, refl, ◌∙◌}
+use Rattle.std.proofs.Common.{arith, ap, length, refl, ◌∙◌}
 use Rattle.log_engine.proofs.CloseLemmas.{after_turn}
-use Rattle.log_engine.proofs.FaultLemmas.{faults_on}
 use Rattle.log_engine.proofs.GrowsLemmas.{same_through}
 use Rattle.log_engine.proofs.ProgressLemmas.{begin_broken, begun, handled_turn, ready_of, way_broken}
 use Rattle.log_engine.proofs.ReadLemmas.{turn_size}
-use Rattle.log_engine.specs.Turns.{sent, state}
+use Rattle.log_engine.specs.Turns.{state}
 use Rattle.rtp_packet.specs.Reading.{rest}
-use Rattle.spec_run.specs.Flows.{read_from}
 use Rattle.log_engine.proofs.run.handle_all.Goals as goal
 
 pub returns-in-Err-clause-after : goal.returns-in-Err-clause-after
@@ -40,7 +38,7 @@ records-init g c =
       calm_out = began.cause;
       same = began.same;
       under = begun g.H.RecordHandler g.I.Source g.O.Sink first c.begin.new.handler c.begin.new.sink
-      c.requires.empty began.empty fresh.2 fresh.3 began.done.0 began.done.1;
+          c.requires.empty began.empty fresh.2 fresh.3 began.done.0 began.done.1;
     }
 
 pub records-preserved : goal.records-preserved
@@ -49,14 +47,16 @@ records-preserved g c =
     let now = state c.records.handler c.records.reader c.records.input c.records.sink in
     let way = c.in_default-make_way.ensures in
     let paused = state c.records.handler c.records.reader c.records.input c.make_way.new.sink in
-    let next = state c.handle_next.new.handler c.handle_next.new.reader c.handle_next.new.input c.handle_next.new.sink in
+    let next = state c.handle_next.new.handler c.handle_next.new.reader c.handle_next.new.input
+    c.handle_next.new.sink in
     let kept = c.records.invariant in
     let turn = c.in_default-handle_next.ensures in
     let handled = turn.turned in
     let went = handled.brought.went in
     let ready = ready_of g.H.RecordHandler g.I.Source g.O.Sink first now c.make_way.new.sink
     kept.under way.kept way.same.grows way.ready in
-    let size = turn_size handled.packet (rest now.reader) (rest next.reader) handled.more handled.brought.joins in
+    let size = turn_size handled.packet (rest now.reader) (rest next.reader) handled.more
+    handled.brought.joins in
     let same = same_through g.O.Sink g.met.O.Sink.transitive in
     let before = same c.args.sink.now now.sink paused.sink kept.same way.same in
     record {
@@ -70,14 +70,15 @@ records-preserved g c =
       calm_out = turn.faults.1 ∙ way.cause ∙ kept.calm_out;
       same = same c.args.sink.now paused.sink next.sink before turn.same;
       under = handled_turn g.H.RecordHandler g.I.Source g.O.Sink first paused next ready kept.job
-      kept.limit turn.same.grows handled;
+          kept.limit turn.same.grows handled;
     }
 
 pub records-smaller : goal.records-smaller
 records-smaller g c =
     let handled = c.in_default-handle_next.ensures.turned in
     let went = handled.brought.went in
-    let size = turn_size handled.packet (rest c.records.reader) (rest c.handle_next.new.reader) handled.more handled.brought.joins in
+    let size = turn_size handled.packet (rest c.records.reader) (rest c.handle_next.new.reader)
+    handled.more handled.brought.joins in
     omega (arith, went.taken, went.limit, went.within, size)
 
 pub returns-in-Err-make_way-clause-same : goal.returns-in-Err-make_way-clause-same
@@ -90,14 +91,16 @@ returns-in-Some-clause-after g c =
     let first = state c.args.handler.now c.args.reader.now c.args.input.now c.args.sink.now in
     let now = state c.records.handler c.records.reader c.records.input c.records.sink in
     let paused = state c.records.handler c.records.reader c.records.input c.make_way.new.sink in
-    let next = state c.handle_next.new.handler c.handle_next.new.reader c.handle_next.new.input c.handle_next.new.sink in
+    let next = state c.handle_next.new.handler c.handle_next.new.reader c.handle_next.new.input
+    c.handle_next.new.sink in
     let way = c.in_default-make_way.ensures in
     let kept = c.records.invariant in
     let turn = c.in-Some.ensures in
     let ready = ready_of g.H.RecordHandler g.I.Source g.O.Sink first now c.make_way.new.sink
     kept.under way.kept way.same.grows way.ready in
     after_turn g.H.RecordHandler g.I.Source g.O.Sink first paused next c.in-Some.end
-    (g.met.H.RecordHandler.early_grows c.args.handler.now) ready kept.job kept.limit turn.same.grows turn.turned
+    (g.met.H.RecordHandler.early_grows c.args.handler.now) ready kept.job kept.limit
+    turn.same.grows turn.turned
 
 pub returns-in-Some-clause-same : goal.returns-in-Some-clause-same
 returns-in-Some-clause-same g c =

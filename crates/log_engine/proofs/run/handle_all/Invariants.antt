@@ -17,7 +17,8 @@ invariant-records g l = record {
   calm_out : Calm (sent g.O.Sink l.fn.sink l.sink);
   same : SameSink g.O.Sink l.fn.sink l.sink;
   under : Underway g.H.RecordHandler g.I.Source g.O.Sink
-      (state l.fn.handler l.fn.reader l.fn.input l.fn.sink) (state l.handler l.reader l.input l.sink);
+      (state l.fn.handler l.fn.reader l.fn.input l.fn.sink)
+      (state l.handler l.reader l.input l.sink);
 }
 
 abbrev pub decreases-records : goal.decreases-records

@@ -1,4 +1,4 @@
-use Rattle.std.proofs.Common.{refl, ◌∙◌}
+use Rattle.std.proofs.Common.{refl}
 use Rattle.log_engine.proofs.CloseLemmas.{closed_broken, closed_put, halted_of, never_memory}
 use Rattle.log_engine.proofs.FaultLemmas.{calm_at, failed_on, faults_on}
 use Rattle.log_engine.proofs.WorksLemmas.{finished_works, read_works, write_works}
@@ -11,9 +11,9 @@ pub returns-in-ReadFault-clause-works : goal.returns-in-ReadFault-clause-works
 returns-in-ReadFault-clause-works g c =
     let ran = c.in-ReadFault.ensures in
     let halt = ran.after in
-    read_works (g.H.RecordHandler.job c.args.handler.now) (limit_of c.args.reader.now) _ halt.packets
-    (rest c.handle_all.new.reader) halt.extra (g.met.H.RecordHandler.whole_grows c.args.handler.now)
-    refl halt.stopped halt.put ran.faults
+    read_works (g.H.RecordHandler.job c.args.handler.now) (limit_of c.args.reader.now) _
+    halt.packets (rest c.handle_all.new.reader) halt.extra
+    (g.met.H.RecordHandler.whole_grows c.args.handler.now) refl halt.stopped halt.put ran.faults
 
 pub returns-in-WriteFault-clause-works : goal.returns-in-WriteFault-clause-works
 returns-in-WriteFault-clause-works g c =
@@ -25,30 +25,37 @@ returns-in-WriteFault-clause-works g c =
 pub returns-in-Ok-clause-works : goal.returns-in-Ok-clause-works
 returns-in-Ok-clause-works g c =
     let first = state c.args.handler.now c.args.reader.now c.args.input.now c.args.sink.now in
-    let now = state c.handle_all.new.handler c.handle_all.new.reader c.handle_all.new.input c.handle_all.new.sink in
+    let now = state c.handle_all.new.handler c.handle_all.new.reader c.handle_all.new.input
+    c.handle_all.new.sink in
     let how = c.handle_all.result in
     let ran = c.handle_all.ensures in
     let closed = c.in-Ok.ensures in
     let input = read_from g.I.Source first.input now.input in
     let output = sent g.O.Sink first.sink now.sink in
-    let halt = halted_of g.H.RecordHandler g.I.Source g.O.Sink first now how ran.after c.in_default.not-WriteFault in
+    let halt = halted_of g.H.RecordHandler g.I.Source g.O.Sink first now how ran.after
+    c.in_default.not-WriteFault in
     let put = closed_put g.H.RecordHandler g.I.Source g.O.Sink first now how c.close.new.handler
     c.close.new.sink halt ran.kept closed.empty closed.done in
     let faults = faults_on how input input output (sent g.O.Sink first.sink c.close.new.sink)
-    (record { before = refl; after = refl }) (record { before = refl; after = closed.cause }) ran.faults in
-    finished_works (g.H.RecordHandler.job c.args.handler.now) (limit_of c.args.reader.now) _ halt.packets
-    (rest now.reader) halt.extra halt.stopped c.in_default.not-ReadFault put.put put.counted faults
+    (record { before = refl; after = refl }) (record { before = refl; after = closed.cause })
+    ran.faults in
+    finished_works (g.H.RecordHandler.job c.args.handler.now) (limit_of c.args.reader.now) _
+    halt.packets (rest now.reader) halt.extra halt.stopped c.in_default.not-ReadFault
+    put.put put.counted faults
 
 pub returns-in-Ok-clause-never_memory : goal.returns-in-Ok-clause-never_memory
 returns-in-Ok-clause-never_memory g c =
     let first = state c.args.handler.now c.args.reader.now c.args.input.now c.args.sink.now in
-    let now = state c.handle_all.new.handler c.handle_all.new.reader c.handle_all.new.input c.handle_all.new.sink in
-    never_memory g.H.RecordHandler g.I.Source g.O.Sink first now c.handle_all.result c.handle_all.ensures.after
+    let now = state c.handle_all.new.handler c.handle_all.new.reader c.handle_all.new.input
+    c.handle_all.new.sink in
+    never_memory g.H.RecordHandler g.I.Source g.O.Sink first now c.handle_all.result
+    c.handle_all.ensures.after
 
 pub returns-in-Err-clause-works : goal.returns-in-Err-clause-works
 returns-in-Err-clause-works g c =
     let first = state c.args.handler.now c.args.reader.now c.args.input.now c.args.sink.now in
-    let now = state c.handle_all.new.handler c.handle_all.new.reader c.handle_all.new.input c.handle_all.new.sink in
+    let now = state c.handle_all.new.handler c.handle_all.new.reader c.handle_all.new.input
+    c.handle_all.new.sink in
     let how = c.handle_all.result in
     let ran = c.handle_all.ensures in
     let input = read_from g.I.Source first.input now.input in
@@ -56,11 +63,13 @@ returns-in-Err-clause-works g c =
     let never_read = c.in_default.not-ReadFault in
     let never_written = c.in_default.not-WriteFault in
     let whole_grows = g.met.H.RecordHandler.whole_grows c.args.handler.now in
-    let halt = halted_of g.H.RecordHandler g.I.Source g.O.Sink first now how ran.after never_written in
+    let halt = halted_of g.H.RecordHandler g.I.Source g.O.Sink first now how ran.after
+    never_written in
     let broke = closed_broken g.H.RecordHandler g.I.Source g.O.Sink first now how c.close.new.sink
     whole_grows halt never_read ran.kept c.close.ensures.same.grows c.in-Err.ensures.failed in
     let calm = calm_at how input output never_read never_written ran.faults in
-    let failed = failed_on (sent g.O.Sink now.sink c.close.new.sink) (sent g.O.Sink first.sink c.close.new.sink)
+    let failed = failed_on (sent g.O.Sink now.sink c.close.new.sink)
+    (sent g.O.Sink first.sink c.close.new.sink)
     (record { before = calm.1; after = refl }) c.in-Err.ensures.cause in
     write_works (g.H.RecordHandler.job c.args.handler.now) (limit_of c.args.reader.now) _
     (g.met.H.RecordHandler.early_grows c.args.handler.now) whole_grows refl broke (calm.0, failed)

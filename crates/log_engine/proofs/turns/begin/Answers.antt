@@ -3,7 +3,8 @@ use Rattle.log_engine.proofs.GrowsLemmas.{Grows-through, part_kept}
 use Rattle.log_engine.proofs.turns.begin.Goals as goal
 
 pub returns-clause-failed : goal.returns-clause-failed
-returns-clause-failed g c = part_kept _ _ _ _ c.flush.result c.in_ok-begin.ensures.done.1 c.flush.ensures.kept
+returns-clause-failed g c =
+    part_kept _ _ _ _ c.flush.result c.in_ok-begin.ensures.done.1 c.flush.ensures.kept
 
 pub returns-clause-same : goal.returns-clause-same
 returns-clause-same g c =

@@ -14,7 +14,8 @@ returns-in-Ok-clause-turned g c =
     let new = c.next.follows.lender-at-none in
     let went = c.next.follows.holds-at-none.1 c.requires.unended in
     let is = c.in-Ok-Packet.is ∙ ap Ok c.in-Ok-Packet.field-0-is in
-    let gives = gives_at input.told input.told' old new c.next.result (Ok (next.Packet c.in-Ok-Packet.packet)) is went in
+    let gives = gives_at input.told input.told' old new c.next.result
+    (Ok (next.Packet c.in-Ok-Packet.packet)) is went in
     record {
       packet = c.in-Ok-Packet.packet.now;
       more = went.0;
@@ -29,7 +30,8 @@ returns-in-Err-handle-clause-turned g c =
     let new = c.next.follows.lender-at-none in
     let went = c.next.follows.holds-at-none.1 c.requires.unended in
     let is = c.in-Ok-Packet.is ∙ ap Ok c.in-Ok-Packet.field-0-is in
-    let gives = gives_at input.told input.told' old new c.next.result (Ok (next.Packet c.in-Ok-Packet.packet)) is went in
+    let gives = gives_at input.told input.told' old new c.next.result
+    (Ok (next.Packet c.in-Ok-Packet.packet)) is went in
     record {
       packet = c.in-Ok-Packet.packet.now;
       more = went.0;
@@ -89,9 +91,11 @@ returns-in-Ok-Truncated-clause-turned g c =
     let is = c.in-Ok-Truncated.is ∙ ap Ok c.in-Ok-Truncated.field-0-is in
     let before = state c.args.handler.now old c.args.input.now c.args.sink.now in
     let after = state c.args.handler.now new c.next.new.source c.args.sink.now in
-    let gives = gives_at input.told input.told' old new c.next.result (Ok (next.Truncated c.in-Ok-Truncated.have)) is went in
+    let gives = gives_at input.told input.told' old new c.next.result
+    (Ok (next.Truncated c.in-Ok-Truncated.have)) is went in
     let why = cut_why input.told went.0 (rest new) c.in-Ok-Truncated.have gives.2 gives.3 gives.4 in
-    missed_at g.I.Source before after (end.LogCut c.in-Ok-Truncated.have) c.next.result went gives.0 gives.1 why refl refl
+    missed_at g.I.Source before after (end.LogCut c.in-Ok-Truncated.have) c.next.result went gives.0
+    gives.1 why refl refl
 
 pub returns-in-Ok-OverLimit-clause-turned : goal.returns-in-Ok-OverLimit-clause-turned
 returns-in-Ok-OverLimit-clause-turned g c =
@@ -103,7 +107,8 @@ returns-in-Ok-OverLimit-clause-turned g c =
     let before = state c.args.handler.now old c.args.input.now c.args.sink.now in
     let after = state c.args.handler.now new c.next.new.source c.args.sink.now in
     let gives = gives_at input.told input.told' old new c.next.result (Ok next.OverLimit) is went in
-    missed_of g.I.Source before after end.LimitReached c.next.result (gives.0 ∷ []) went gives.1 gives.2
+    missed_of g.I.Source before after end.LimitReached c.next.result (gives.0 ∷ []) went
+    gives.1 gives.2
     (omega arith) (record { one = gives.0; over = refl; full = gives.3 }) refl refl
 
 pub returns-in-Err-clause-turned : goal.returns-in-Err-clause-turned
@@ -115,5 +120,7 @@ returns-in-Err-clause-turned g c =
     let is = c.in-Err.is in
     let before = state c.args.handler.now old c.args.input.now c.args.sink.now in
     let after = state c.args.handler.now new c.next.new.source c.args.sink.now in
-    let gives = gives_at input.told input.told' old new c.next.result (Err c.in-Err.field-0) is went in
-    missed_at g.I.Source before after end.ReadFault c.next.result went gives.0 gives.1 refl refl refl
+    let gives = gives_at input.told input.told' old new c.next.result (Err c.in-Err.field-0) is
+    went in
+    missed_at g.I.Source before after end.ReadFault c.next.result went gives.0 gives.1
+    refl refl refl

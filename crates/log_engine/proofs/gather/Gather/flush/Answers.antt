@@ -10,7 +10,8 @@ sending-preserved g c =
     let passed = c.pass.ensures in
     let n = c.in_ok-count.count in
     let split : c.sending.self.waiting ≡ take n c.sending.self.waiting ++ c.pass.new.self.waiting =
-    sym (take-append-drop n c.sending.self.waiting) ∙ ap (λ l. take n c.sending.self.waiting ++ l) (sym (ap (λ t. t.waiting) passed)) in
+    sym (take-append-drop n c.sending.self.waiting)
+    ∙ ap (λ l. take n c.sending.self.waiting ++ l) (sym (ap (λ t. t.waiting) passed)) in
     record {
       kept = Keeps-trans _ _ _ before.kept (append_known-moved _ _ _ _ _ wrote split);
       room = ap (λ t. t.room) passed ∙ before.room;

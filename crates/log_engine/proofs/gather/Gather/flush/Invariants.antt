@@ -5,7 +5,8 @@ use Rattle.log_engine.proofs.gather.Gather.flush.Given as goal
 
 abbrev pub invariant-sending : goal.invariant-sending
 invariant-sending g l = record {
-  kept : Keeps (append_known (g.O.Sink.got l.initial.output) l.initial.self.waiting) (append_known (g.O.Sink.got l.output) l.self.waiting);
+  kept : Keeps (append_known (g.O.Sink.got l.initial.output) l.initial.self.waiting)
+      (append_known (g.O.Sink.got l.output) l.self.waiting);
   room : l.self.room ≡ l.initial.self.room;
   faults : g.O.Sink.faults l.output ≡ g.O.Sink.faults l.initial.output;
   beside : g.O.Sink.beside l.output ≡ g.O.Sink.beside l.initial.output;

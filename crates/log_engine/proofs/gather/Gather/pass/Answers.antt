@@ -7,6 +7,10 @@ pub returns : goal.returns
 returns c =
     let inside = c.self.inside in
     let waiting = slice_range inside.tray.items inside.sent inside.used in
-    let fits : c.args.count ≤ length waiting = rw (ap (λ v. length v.waiting) c.self.view_is) c.requires in
-    let left = part_passed inside.tray.items inside.sent inside.used c.args.count (omega (arith, length-take {A = ℕ})) in
-    rw (← c.self.view_is) (ap (λ (w : List ℕ). record { waiting = w; used = inside.used; room = vec_len inside.tray }) (sym left))
+    let fits : c.args.count ≤ length waiting =
+    rw (ap (λ v. length v.waiting) c.self.view_is) c.requires in
+    let left = part_passed inside.tray.items inside.sent inside.used c.args.count
+    (omega (arith, length-take {A = ℕ})) in
+    rw (← c.self.view_is)
+    (ap (λ (w : List ℕ). record { waiting = w; used = inside.used; room = vec_len inside.tray })
+    (sym left))
