@@ -1,4 +1,6 @@
 pub mod Jobs
 pub mod Options
 pub mod Rows
+pub mod Table
+pub mod Values
 pub mod Words

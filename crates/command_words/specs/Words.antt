@@ -1,6 +1,5 @@
 -- The words behind a command: pairs of an option and its value, in any order. This project's own.
-use Rattle.std.specs.Prelude.{ℕ, Bool, true, not, ◌&&◌, List, [], ◌∷◌, map, find, length, ◌%◌, nat_eq, Option, option_map, is_some, bytes_eq, string_bytes, String}
-use Rattle.std.specs.List.{list_any, list_all}
+use Rattle.std.specs.Prelude.{ℕ, Bool, true, not, ◌&&◌, List, [], ◌∷◌, map, find, Option, option_map, is_some, bytes_eq, string_bytes, String}
 use Rattle.std.specs.declared.alloc.Global.{Global}
 
 -- an option, and the word behind it
@@ -22,16 +21,7 @@ pairs (option ∷ value ∷ rest) = record { option = option; value = value } �
 abbrev pub value_of : List ℕ → List Pair → Option (List ℕ)
 value_of option given = option_map (λ p. p.value) (find (λ p. bytes_eq p.option option) given)
 
--- each option is one of these
-abbrev pub are_among : List (List ℕ) → List Pair → Bool
-are_among options given = list_all (λ p. list_any (λ option. bytes_eq option p.option) options) given
-
 -- no option stands twice: none is found among the pairs behind its own
 abbrev pub all_differ : List Pair → Bool
 all_differ [] = true
 all_differ (p ∷ rest) = not (is_some (value_of p.option rest)) && all_differ rest
-
--- the words are pairs of one of these options and a value, and none stands twice
-abbrev pub are_pairs_of : List (List ℕ) → List (List ℕ) → Bool
-are_pairs_of options words =
-    nat_eq (length words % 2) 0 && are_among options (pairs words) && all_differ (pairs words)

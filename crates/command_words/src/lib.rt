@@ -2,7 +2,9 @@
 #![tactic(auto)]
 
 mod command;
-mod number;
+mod options;
+mod table;
+mod values;
 mod words;
 
 pub use command::{Command, RecordWords, read_command};

@@ -22,136 +22,107 @@ fn read(alloc: Global, line: &str) -> Result<Option<Command>, AllocError> {
     Ok(read_command(&words))
 }
 
+// The first of these lines that asks anything else of `record`.
+fn first_wrong<'a>(
+    alloc: Global,
+    rows: &[(&'a str, RecordWords)],
+) -> Result<Option<&'a str>, AllocError> {
+    for (line, job) in rows {
+        if read(alloc, line)? != Some(Command::Record(*job)) {
+            return Ok(Some(line));
+        }
+    }
+    Ok(None)
+}
+
 #[test]
-fn pairs_of_words_give_a_job(rt: HostRuntime) -> Result<(), Fail> {
-    let rows: [(&str, RecordWords); 19] = [
+fn a_codec_is_enough(rt: HostRuntime) -> Result<(), Fail> {
+    let wide = RecordWords {
+        codec: Codec::AmrWb,
+        ..PLAIN
+    };
+    let six = RecordWords {
+        channels: 6,
+        ..PLAIN
+    };
+    let rows = [
         ("record --codec AMR", PLAIN),
-        (
-            "record --codec AMR-WB",
-            RecordWords {
-                codec: Codec::AmrWb,
-                ..PLAIN
-            },
-        ),
-        (
-            "record --codec AMR --channels 6",
-            RecordWords {
-                channels: 6,
-                ..PLAIN
-            },
-        ),
-        (
-            "record --codec AMR --pt 97",
-            RecordWords {
-                pt: Some(97),
-                ..PLAIN
-            },
-        ),
-        (
-            "record --codec AMR --pt 097",
-            RecordWords {
-                pt: Some(97),
-                ..PLAIN
-            },
-        ),
-        (
-            "record --codec AMR --pt 0",
-            RecordWords {
-                pt: Some(0),
-                ..PLAIN
-            },
-        ),
-        (
-            "record --codec AMR --pt 127",
-            RecordWords {
-                pt: Some(127),
-                ..PLAIN
-            },
-        ),
-        (
-            "record --codec AMR --pt 0000000000007",
-            RecordWords {
-                pt: Some(7),
-                ..PLAIN
-            },
-        ),
+        ("record --codec AMR-WB", wide),
+        ("record --codec AMR --channels 6", six),
+    ];
+    assert_eq!(rt; first_wrong(rt.alloc(), &rows)?, None);
+    Ok(())
+}
+
+#[test]
+fn numbers_have_up_to_thirteen_digits(rt: HostRuntime) -> Result<(), Fail> {
+    let of_type = |pt: u8| RecordWords {
+        pt: Some(pt),
+        ..PLAIN
+    };
+    let rows = [
+        ("record --codec AMR --pt 97", of_type(97)),
+        ("record --codec AMR --pt 097", of_type(97)),
+        ("record --codec AMR --pt 0", of_type(0)),
+        ("record --codec AMR --pt 127", of_type(127)),
+        ("record --codec AMR --pt 0000000000007", of_type(7)),
         (
             "record --codec AMR --limit 1",
             RecordWords { limit: 1, ..PLAIN },
         ),
         ("record --codec AMR --limit 1099511627776", PLAIN),
-        (
-            "record --codec AMR --window 8",
-            RecordWords {
-                window: 8,
-                max_blocks: 8,
-                ..PLAIN
-            },
-        ),
-        (
-            "record --codec AMR --window 4096",
-            RecordWords {
-                window: 4096,
-                ..PLAIN
-            },
-        ),
-        (
-            "record --codec AMR --window 1",
-            RecordWords {
-                window: 1,
-                max_blocks: 1,
-                ..PLAIN
-            },
-        ),
+    ];
+    assert_eq!(rt; first_wrong(rt.alloc(), &rows)?, None);
+    Ok(())
+}
+
+#[test]
+fn a_payload_has_no_more_blocks_than_the_window(rt: HostRuntime) -> Result<(), Fail> {
+    let sized = |window: u16, max_blocks: u8| RecordWords {
+        window,
+        max_blocks,
+        ..PLAIN
+    };
+    let rows = [
+        ("record --codec AMR --window 8", sized(8, 8)),
+        ("record --codec AMR --window 4096", sized(4096, 64)),
+        ("record --codec AMR --window 1", sized(1, 1)),
+        ("record --codec AMR --max-blocks 9", sized(256, 9)),
+        // Whether the window has room for a payload isn't a question of the words.
+        ("record --codec AMR --window 8 --max-blocks 9", sized(8, 9)),
+        ("record --max-blocks 9 --window 8 --codec AMR", sized(8, 9)),
         (
             "record --codec AMR --reach 1",
             RecordWords { reach: 1, ..PLAIN },
         ),
         ("record --codec AMR --reach 45000", PLAIN),
-        (
-            "record --codec AMR --max-blocks 9",
-            RecordWords {
-                max_blocks: 9,
-                ..PLAIN
-            },
-        ),
-        // Whether the window has room for a payload isn't a question of the words.
-        (
-            "record --codec AMR --window 8 --max-blocks 9",
-            RecordWords {
-                window: 8,
-                max_blocks: 9,
-                ..PLAIN
-            },
-        ),
-        (
-            "record --max-blocks 9 --window 8 --codec AMR",
-            RecordWords {
-                window: 8,
-                max_blocks: 9,
-                ..PLAIN
-            },
-        ),
+    ];
+    assert_eq!(rt; first_wrong(rt.alloc(), &rows)?, None);
+    Ok(())
+}
+
+#[test]
+fn options_stand_in_any_order(rt: HostRuntime) -> Result<(), Fail> {
+    let all = RecordWords {
+        codec: Codec::AmrWb,
+        channels: 2,
+        pt: Some(5),
+        limit: 4,
+        window: 6,
+        reach: 2,
+        max_blocks: 3,
+    };
+    let rows = [
         (
             "record --reach 2 --max-blocks 3 --pt 5 --codec AMR-WB --limit 4 --window 6 --channels 2",
-            RecordWords {
-                codec: Codec::AmrWb,
-                channels: 2,
-                pt: Some(5),
-                limit: 4,
-                window: 6,
-                reach: 2,
-                max_blocks: 3,
-            },
+            all,
+        ),
+        (
+            "record --channels 2 --window 6 --limit 4 --codec AMR-WB --pt 5 --max-blocks 3 --reach 2",
+            all,
         ),
     ];
-    for (line, job) in rows {
-        assert_eq!(rt;
-            read(rt.alloc(), line)?,
-            Some(Command::Record(job)),
-            "of {line}"
-        );
-    }
+    assert_eq!(rt; first_wrong(rt.alloc(), &rows)?, None);
     Ok(())
 }
 

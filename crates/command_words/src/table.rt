@@ -1,0 +1,127 @@
+ghost use Rattle.std.specs.Prelude.{◌≡◌};
+ghost use Rattle.std.specs.List.{list_any};
+ghost use Rattle.command_words.specs.Table.{is_of, allows, is_allowed};
+ghost use Rattle.command_words.specs.Rows.{row_of};
+
+use crate::values::Values;
+
+/// A row of the table: an option, and what it may be.
+#[derive(Clone, Copy)]
+pub struct Row {
+    pub name: &'static str,
+    pub values: Values,
+    /// The number where the option is absent, if that is the same whatever else is given.
+    pub default: Option<u64>,
+    /// The names of the commands that take the option.
+    pub commands: &'static [&'static str],
+}
+
+/// The command that writes a log of packets as a storage file.
+pub const RECORD: &str = "record";
+
+/// The codec, which has to be given.
+pub const CODEC: Row = Row {
+    name: "--codec",
+    values: Values::Codecs,
+    default: None,
+    commands: &[RECORD],
+};
+
+/// The frames of one block.
+pub const CHANNELS: Row = Row {
+    name: "--channels",
+    values: Values::Numbers {
+        least: 1,
+        greatest: 6,
+    },
+    default: Some(1),
+    commands: &[RECORD],
+};
+
+/// The one payload type that is read.
+pub const PT: Row = Row {
+    name: "--pt",
+    values: Values::Numbers {
+        least: 0,
+        greatest: 127,
+    },
+    default: None,
+    commands: &[RECORD],
+};
+
+/// The most octets that are read.
+pub const LIMIT: Row = Row {
+    name: "--limit",
+    values: Values::Numbers {
+        least: 1,
+        greatest: 1_099_511_627_776,
+    },
+    default: Some(1_099_511_627_776),
+    commands: &[RECORD],
+};
+
+/// The window, in blocks.
+pub const WINDOW: Row = Row {
+    name: "--window",
+    values: Values::Numbers {
+        least: 1,
+        greatest: 4096,
+    },
+    default: Some(256),
+    commands: &[RECORD],
+};
+
+/// How many blocks ahead a packet may lie.
+pub const REACH: Row = Row {
+    name: "--reach",
+    values: Values::Numbers {
+        least: 1,
+        greatest: 45_000,
+    },
+    default: Some(45_000),
+    commands: &[RECORD],
+};
+
+/// The most blocks in a payload. Its default depends on the window.
+pub const MAX_BLOCKS: Row = Row {
+    name: "--max-blocks",
+    values: Values::Numbers {
+        least: 1,
+        greatest: 64,
+    },
+    default: None,
+    commands: &[RECORD],
+};
+
+/// All rows.
+const TABLE: [Row; 7] = [CODEC, CHANNELS, PT, LIMIT, WINDOW, REACH, MAX_BLOCKS];
+
+impl Row {
+    /// Whether a command may have this option with this value by this row.
+    fn allows(&self, command: &str, name: &str, value: &str) -> bool
+        ensures { result ≡ allows command.now name.now value.now (row_of self.now) }
+    {
+        self.name == name && self.is_of(command) && self.values.has(value)
+    }
+
+    /// Whether a command takes the option of this row.
+    fn is_of(&self, command: &str) -> bool
+        ensures { result ≡ is_of command.now (row_of self.now) }
+    {
+        self.commands.contains(&command)
+    }
+}
+
+/// Whether a command may have this option with this value: a row of the table says so.
+pub fn is_allowed(command: &str, name: &str, value: &str) -> bool
+    ensures { result ≡ is_allowed command.now name.now value.now }
+{
+    one_allows(&TABLE, command, name, value)
+}
+
+/// Whether one of these rows says so.
+fn one_allows(rows: &[Row], command: &str, name: &str, value: &str) -> bool
+    ensures { result ≡ list_any (λ r. allows command.now name.now value.now (row_of r)) rows.now }
+{
+    rows.iter().any(|row| row.allows(command, name, value))
+}

@@ -1,0 +1,85 @@
+ghost use Rattle.std.specs.Prelude.{◌≡◌, IfSome};
+ghost use Rattle.std.specs.Str.{all_ascii_digits};
+ghost use Rattle.command_words.specs.declared.values.Values.TheVariants.{Numbers};
+ghost use Rattle.command_words.specs.Values.{IsAmong, is_among, codec_named};
+ghost use Rattle.command_words.specs.Values.{is_number, number_of, number_among};
+
+use amr_frame::Codec;
+
+/// The values that an option may have.
+#[derive(Clone, Copy)]
+pub enum Values {
+    /// The names of the codecs.
+    Codecs,
+    /// The numbers from the least to the greatest, in decimal.
+    Numbers { least: u64, greatest: u64 },
+}
+
+impl Values {
+    /// Whether a text is one of the values.
+    pub fn has(&self, text: &str) -> bool
+        ensures { result ≡ is_among self.now text.now }
+    {
+        match self {
+            Values::Codecs => read_codec(text).is_some(),
+            Values::Numbers { .. } => self.number(text).is_some(),
+        }
+    }
+
+    /// The number that a text stands for, if it is one of the values.
+    pub fn number(&self, text: &str) -> Option<u64>
+        ensures value { result ≡ number_among self.now text.now }
+        ensures within { IfSome result (IsAmong self.now) }
+    {
+        match *self {
+            Values::Codecs => None,
+            Values::Numbers { least, greatest } => number_between(text, least, greatest),
+        }
+    }
+}
+
+/// The codec of this name.
+pub fn read_codec(name: &str) -> Option<Codec>
+    ensures { result ≡ codec_named name.now }
+{
+    match name {
+        "AMR" => Some(Codec::Amr),
+        "AMR-WB" => Some(Codec::AmrWb),
+        _ => None,
+    }
+}
+
+/// The number that a text stands for, if it isn't below the least nor above the greatest.
+fn number_between(text: &str, least: u64, greatest: u64) -> Option<u64>
+    ensures value { result ≡ number_among (Numbers least greatest) text.now }
+    ensures within { IfSome result (IsAmong (Numbers least greatest)) }
+{
+    let number = read_number(text)?;
+    if number < least || greatest < number {
+        return None;
+    }
+    Some(number)
+}
+
+/// The number that a text of 1 to 13 decimal digits stands for.
+fn read_number(text: &str) -> Option<u64>
+    ensures { result ≡ number_of text.now }
+{
+    if !is_number(text) {
+        return None;
+    }
+    text.parse().ok()
+}
+
+/// Whether a text is 1 to 13 decimal digits; they may begin with zeros.
+fn is_number(text: &str) -> bool
+    ensures { result ≡ is_number text.now }
+{
+    !text.is_empty() && text.len() <= 13 && are_digits(text.as_bytes())
+}
+
+fn are_digits(octets: &[u8]) -> bool
+    ensures { result ≡ all_ascii_digits octets.now }
+{
+    octets.iter().all(|octet| octet.is_ascii_digit())
+}
