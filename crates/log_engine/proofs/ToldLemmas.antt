@@ -9,7 +9,7 @@ use Rattle.std.proofs.lemmas.List.Concat.{flat_map-append}
 use Rattle.std.proofs.lemmas.Bool.{le-ltb, lt-ltb}
 use Rattle.std.specs.Io.KnownBytes.{Appends, Consumes}
 use Rattle.spec_packet.specs.Log.{Cut, IsPartial, AreRecords, framed, log_of, cut, with_octet, is_whole}
-use Rattle.session_laws.proofs.Cut.{cut_one}
+use Rattle.record_reader.proofs.LogCut.{cut_one}
 use Rattle.log_engine.specs.Run.{Ran, Took, Ended, Passed, Broke, IsPrefix}
 use Rattle.log_engine.specs.Told.{records_within, rest_end, end_of, Told, BrokeReading, BrokeWriting}
 use Rattle.log_engine.specs.declared.log_end.LogEnd.{LogEnd}

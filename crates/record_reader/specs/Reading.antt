@@ -92,6 +92,10 @@ module _ {HEAD AT : ℕ} where
   abbrev pub ShowsIn : Option (List ℕ) → RecordReader HEAD AT → Result Step Failed → RecordReader HEAD AT → Type 0
   ShowsIn left old r new = IfSome left (λ all. IfOk r (λ step. Shows (rest old ++ all) (limit_of old - given old) new step))
 
+  -- where a record is lent, it is one, and the octets given rise by its own
+  abbrev pub Shifts : RecordReader HEAD AT → Result Step Failed → RecordReader HEAD AT → Type 0
+  Shifts old r new = IfOk r (λ step. step ≡ Record → IsRecord HEAD AT (lent new) × (given new ≡ given old + new.lent))
+
   -- the reader holds and took what it had
   abbrev pub Stays : RecordReader HEAD AT → RecordReader HEAD AT → Type 0
   Stays old new = (rest new ≡ rest old) × (new.inlet.gate ≡ old.inlet.gate) × (taken_of new ≡ taken_of old) × (limit_of new ≡ limit_of old)

@@ -9,3 +9,6 @@ mod reader;
 pub use law::{a_log_has_one_cut, octets_have_one_cut};
 pub use next::Next;
 pub use reader::RecordReader;
+
+#[cfg(test)]
+mod tests;

@@ -26,10 +26,10 @@ pub struct RecordReader<const HEAD: usize, const AT: usize> {
 }
 
 impl<const HEAD: usize, const AT: usize> RecordReader<HEAD, AT> {
-    ghost use Rattle.record_reader.specs.Reading.{rest, held, lent, given, taken_of, limit_of, IsOpen, HasEnded, IsOver, IsUsable, IsFresh, Advances, ShowsIn, Repeats};
+    ghost use Rattle.record_reader.specs.Reading.{rest, held, lent, given, taken_of, limit_of, IsOpen, HasEnded, IsOver, IsUsable, IsFresh, Advances, ShowsIn, Repeats, Shifts};
     ghost use Rattle.std.specs.Borrow.{sem};
     ghost use Rattle.record_reader.specs.Lent.{RestsAt, Leaves};
-    ghost use Rattle.record_reader.specs.Cause.{TellsIn, EndsAgain};
+    ghost use Rattle.record_reader.specs.Cause.{TellsIn, LendsRecord, EndsAgain};
 
     /// A reader of which at most `limit` octets are taken.
     ///
@@ -80,7 +80,7 @@ impl<const HEAD: usize, const AT: usize> RecordReader<HEAD, AT> {
 
         ensures open { IsOpen self.old → Advances (S.left source.old) (S.left source.new) self.old result self.new }
         ensures again { Repeats self.old result self.new source.old source.new }
-        ensures size { IfOk result (λ step. step ≡ Step.Record → given self.new ≡ given self.old + self.new.lent) }
+        ensures lends { Shifts self.old result self.new }
         ensures cause { HasCause (S.faults source.old) (S.faults source.new) result }
     {
         'filling: loop {
@@ -103,7 +103,7 @@ impl<const HEAD: usize, const AT: usize> RecordReader<HEAD, AT> {
 
         ensures open { IsOpen self.old → Advances (S.left source.old) (S.left source.new) self.old result self.new }
         ensures again { Repeats self.old result self.new source.old source.new }
-        ensures size { IfOk result (λ step. step ≡ Step.Record → given self.new ≡ given self.old + self.new.lent) }
+        ensures lends { Shifts self.old result self.new }
         ensures no_read { IsWhole HEAD AT (rest self.old) → (source.new ≡ source.old) × IsOk result }
         ensures cause { HasCause (S.faults source.old) (S.faults source.new) result }
     {
@@ -123,7 +123,7 @@ impl<const HEAD: usize, const AT: usize> RecordReader<HEAD, AT> {
         ensures again { Repeats self.old result self.new source.old source.new }
         ensures shows { IsOpen self.old → ShowsIn (S.left source.old) self.old result self.new }
         ensures usable { IfOk result (λ _. self.new.inlet.gate ≢ gate.Spent) }
-        ensures size { IfOk result (λ step. step ≡ Step.Record → given self.new ≡ given self.old + self.new.lent) }
+        ensures lends { Shifts self.old result self.new }
         ensures no_read { IsWhole HEAD AT (rest self.old) → (source.new ≡ source.old) × IsOk result }
         ensures cause { HasCause (S.faults source.old) (S.faults source.new) result }
     {
@@ -156,6 +156,7 @@ impl<const HEAD: usize, const AT: usize> RecordReader<HEAD, AT> {
         ensures no_read { IsWhole HEAD AT (rest self.old) → (source.new ≡ source.old) × IsOk result }
         ensures cause { HasCause (S.faults source.old) (S.faults source.new) result }
 
+        ensures record { LendsRecord HEAD AT result }
         ensures exact { IsOpen self.old → TellsIn HEAD AT (S.left source.old) (rest self.old) (limit_of self.old - given self.old) result }
         ensures ended_again { HasEnded self.old → (source.new ≡ source.old) × EndsAgain (rest self.old) result }
         ensures over_again { IsOver self.old → (source.new ≡ source.old) × (result ≡ Ok Next.OverLimit) }

@@ -75,26 +75,28 @@ filling-smaller g c =
 pub invariant_of-self-in-Some-clause-head : goal.invariant_of-self-in-Some-clause-head
 invariant_of-self-in-Some-clause-head g c = c.filling.self.head
 
-pub returns-in-Some-clause-size : goal.returns-in-Some-clause-size
-returns-in-Some-clause-size g c = λ _.
+pub returns-in-Some-clause-lends : goal.returns-in-Some-clause-lends
+returns-in-Some-clause-lends g c = λ _.
     let kept = c.filling.invariant in
     let op = more_is_open c.filling.self.inlet.gate c.in_ok-fill.field-0 c.in-More.count (λ e. c.requires.usable (sym kept.still ∙ e)) (λ e. (c.in_ok-fill.ensures.ended e).0) (λ e. (c.in_ok-fill.ensures.over e).0) c.in-More.is in
     let filled = rw c.in-More.is at (c.in_ok-fill.ensures.open op) in
     let tank = filled.6 in
     let so_far = kept.so_far in
-    let first = rw c.held.ensures.octets at c.in-Some.ensures.size in
-    omega (
-      arith,
-      c.requires.lent,
-      first.within,
-      so_far.3,
-      ap length so_far.2,
-      ap (λ t. length t.held) tank,
-      ap (λ t. t.taken) tank,
-      filled.1,
-      length-append {A = ℕ},
-      length-drop {A = ℕ},
-      c.args.self.now.counted,
+    let first = rw c.held.ensures.octets at c.in-Some.ensures.size in (
+      first.is,
+      omega (
+        arith,
+        c.requires.lent,
+        first.within,
+        so_far.3,
+        ap length so_far.2,
+        ap (λ t. length t.held) tank,
+        ap (λ t. t.taken) tank,
+        filled.1,
+        length-append {A = ℕ},
+        length-drop {A = ℕ},
+        c.args.self.now.counted,
+      ),
     )
 
 pub invariant_of-self-in-Some-clause-counted : goal.invariant_of-self-in-Some-clause-counted
