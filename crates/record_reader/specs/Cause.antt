@@ -10,12 +10,14 @@ use Rattle.record_reader.specs.Record.{IsFirst}
 abbrev pub Tells : ℕ → ℕ → List ℕ → ℕ → Next → Type 0
 Tells head at octets room (Record r) = IsFirst head at octets room r.now
 Tells head at octets room End = octets ≡ []
-Tells head at octets room (Truncated have) = (length octets ≡ have) × (0 < have) × (have ≤ room) × IsPartial head at octets
+Tells head at octets room (Truncated have) = (length octets ≡ have) × (0 < have) × (have ≤ room)
+    × IsPartial head at octets
 Tells head at octets room OverLimit = (room < length octets) × IsPartial head at (take room octets)
 
--- where the octets left are told and the call is served, the answer has its cause in those held and those left
+-- where the octets left are told and the call is served, they and those held are the answer's cause
 abbrev pub TellsIn : ℕ → ℕ → Option (List ℕ) → List ℕ → ℕ → Result Next Failed → Type 0
-TellsIn head at left held room r = IfSome left (λ all. IfOk r (λ next. Tells head at (held ++ all) room next))
+TellsIn head at left held room r = IfSome left (λ all. IfOk r
+    (λ next. Tells head at (held ++ all) room next))
 
 -- what is lent is one record
 abbrev pub LendsRecord : ℕ → ℕ → Result Next Failed → Type 0

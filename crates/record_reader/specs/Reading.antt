@@ -69,39 +69,54 @@ Exhausts left octets = IfSome left (λ all. all ≡ octets)
 
 module _ {HEAD AT : ℕ} where
   -- what a step that read these octets did, by its answer
-  abbrev pub Steps : Option (List ℕ) → Option (List ℕ) → List ℕ → RecordReader HEAD AT → Result Step Failed → RecordReader HEAD AT → Type 0
-  Steps left left' more old (Ok Record) new = Consumes left left' more × (rest old ++ more ≡ lent new ++ rest new)
+  abbrev pub Steps : Option (List ℕ) → Option (List ℕ) → List ℕ → RecordReader HEAD AT
+      → Result Step Failed → RecordReader HEAD AT → Type 0
+  Steps left left' more old (Ok Record) new = Consumes left left' more
+      × (rest old ++ more ≡ lent new ++ rest new)
       × IsRecord HEAD AT (lent new) × IsOpen new
-  Steps left left' more old (Ok End) new = Consumes left left' more × Stops more old new × Exhausts left more × HasEnded new
-  Steps left left' more old (Ok OverLimit) new = (x : ℕ) × Consumes left left' (more ++ x ∷ []) × Stops more old new
+  Steps left left' more old (Ok End) new = Consumes left left' more × Stops more old new
+      × Exhausts left more × HasEnded new
+  Steps left left' more old (Ok OverLimit) new = (x : ℕ) × Consumes left left' (more ++ x ∷ [])
+      × Stops more old new
       × (taken_of new ≡ limit_of new) × IsOver new
-  Steps left left' more old (Err _) new = Consumes left left' more × Stops more old new × IsSpent new
+  Steps left left' more old (Err _) new = Consumes left left' more × Stops more old new
+      × IsSpent new
 
-  -- some octets were read, none where a record was held, and the reader went a step; it took so many more, and keeps its limit
-  abbrev pub Advances : Option (List ℕ) → Option (List ℕ) → RecordReader HEAD AT → Result Step Failed → RecordReader HEAD AT → Type 0
-  Advances left left' old r new = (more : List ℕ) × Steps left left' more old r new × (taken_of new ≡ taken_of old + length more)
+  -- some octets were read, none where a record was held, and the reader went a step; it took so
+  -- many more, and keeps its limit
+  abbrev pub Advances : Option (List ℕ) → Option (List ℕ) → RecordReader HEAD AT
+      → Result Step Failed → RecordReader HEAD AT → Type 0
+  Advances left left' old r new = (more : List ℕ) × Steps left left' more old r new
+      × (taken_of new ≡ taken_of old + length more)
       × (limit_of new ≡ limit_of old) × (IsWhole HEAD AT (rest old) → more ≡ [])
 
-  -- what a step that is served shows of the octets that were not given yet, `room` of which the limit allows
+  -- what a step that is served shows of the octets that were not given yet, `room` of which the
+  -- limit allows
   abbrev pub Shows : List ℕ → ℕ → RecordReader HEAD AT → Step → Type 0
   Shows octets room new Record = IsFirst HEAD AT octets room (lent new)
-  Shows octets room new End = (octets ≡ rest new) × (length octets ≤ room) × IsPartial HEAD AT octets
+  Shows octets room new End = (octets ≡ rest new) × (length octets ≤ room)
+      × IsPartial HEAD AT octets
   Shows octets room new OverLimit = (room < length octets) × IsPartial HEAD AT (take room octets)
 
   -- it shows that of the octets held and left, where those left are told
-  abbrev pub ShowsIn : Option (List ℕ) → RecordReader HEAD AT → Result Step Failed → RecordReader HEAD AT → Type 0
-  ShowsIn left old r new = IfSome left (λ all. IfOk r (λ step. Shows (rest old ++ all) (limit_of old - given old) new step))
+  abbrev pub ShowsIn : Option (List ℕ) → RecordReader HEAD AT → Result Step Failed
+      → RecordReader HEAD AT → Type 0
+  ShowsIn left old r new = IfSome left (λ all. IfOk r
+      (λ step. Shows (rest old ++ all) (limit_of old - given old) new step))
 
   -- where a record is lent, it is one, and the octets given rise by its own
   abbrev pub Shifts : RecordReader HEAD AT → Result Step Failed → RecordReader HEAD AT → Type 0
-  Shifts old r new = IfOk r (λ step. step ≡ Record → IsRecord HEAD AT (lent new) × (given new ≡ given old + new.lent))
+  Shifts old r new = IfOk r (λ step. step ≡ Record → IsRecord HEAD AT (lent new)
+      × (given new ≡ given old + new.lent))
 
   -- the reader holds and took what it had
   abbrev pub Stays : RecordReader HEAD AT → RecordReader HEAD AT → Type 0
-  Stays old new = (rest new ≡ rest old) × (new.inlet.gate ≡ old.inlet.gate) × (taken_of new ≡ taken_of old) × (limit_of new ≡ limit_of old)
+  Stays old new = (rest new ≡ rest old) × (new.inlet.gate ≡ old.inlet.gate)
+      × (taken_of new ≡ taken_of old) × (limit_of new ≡ limit_of old)
 
   -- an end is given again, with no read
-  abbrev pub Repeats : {S : Type 0} → RecordReader HEAD AT → Result Step Failed → RecordReader HEAD AT → S → S → Type 0
+  abbrev pub Repeats : {S : Type 0} → RecordReader HEAD AT → Result Step Failed
+      → RecordReader HEAD AT → S → S → Type 0
   Repeats old r new source source' =
       (HasEnded old → (r ≡ Ok End) × Stays old new × (source' ≡ source))
       × (IsOver old → (r ≡ Ok OverLimit) × Stays old new × (source' ≡ source))

@@ -1,4 +1,5 @@
-//! Records whose length stands in 16 bits at octet AT of a head of HEAD octets, read one after the other and lent in place.
+//! Records whose length stands in 16 bits at octet AT of a head of HEAD octets, read one after the
+//! other and lent in place.
 #![tactic(auto)]
 
 mod head;

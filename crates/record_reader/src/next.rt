@@ -9,7 +9,8 @@ pub enum Next<'a> {
     End,
     /// The input ended inside a record, of which `have` octets came, at least 1, its head included.
     Truncated { have: usize },
-    /// As many octets as the limit allows were taken, their whole records were given, and one octet more came.
+    /// As many octets as the limit allows were taken, their whole records were given, and one octet
+    /// more came.
     OverLimit,
 }
 

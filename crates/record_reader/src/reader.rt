@@ -1,5 +1,5 @@
 // Records lent one at a time.
-ghost use Rattle.std.specs.Prelude.{◌≡◌, ◌≢◌, ℕ, ◌+◌, ◌-◌, ◌*◌, ◌≤◌, ◌<◌, ◌^◌, ◌↔◌, [], length, take, drop, IfOk, IsTrue, IsOk, Ok};
+ghost use Rattle.std.specs.Prelude.{◌≡◌, ◌≢◌, ◌+◌, ◌-◌, ◌*◌, ◌≤◌, ◌<◌, ◌^◌, ◌↔◌, length, drop, IfOk, IsTrue, IsOk, Ok};
 ghost use Rattle.amr_io.specs.declared.gate.Gate.TheVariants as gate;
 ghost use Rattle.amr_io.specs.Fault.{HasCause};
 ghost use Rattle.spec_packet.specs.Records.{IsPartial, IsWhole};
@@ -9,7 +9,8 @@ use crate::next::{Next, Step};
 use amr_io::{Failed, Filled, Inlet, Source};
 use std::alloc::{AllocError, Global};
 
-/// Reads records one after the other, each a head of HEAD octets whose octets AT and AT + 1 tell how many octets follow it.
+/// Reads records one after the other, each a head of HEAD octets whose octets AT and AT + 1 tell
+/// how many octets follow it.
 /// It holds at most HEAD + 65,535 octets.
 #[derive(Drop)]
 pub struct RecordReader<const HEAD: usize, const AT: usize> {
@@ -64,7 +65,8 @@ impl<const HEAD: usize, const AT: usize> RecordReader<HEAD, AT> {
     fn release(&mut self)
         ensures held { held self.new ≡ rest self.old }
         ensures lent { self.new.lent ≡ 0 }
-        ensures kept { (self.new.inlet.gate ≡ self.old.inlet.gate) × (taken_of self.new ≡ taken_of self.old) × (limit_of self.new ≡ limit_of self.old) }
+        ensures kept { (self.new.inlet.gate ≡ self.old.inlet.gate)
+            × (taken_of self.new ≡ taken_of self.old) × (limit_of self.new ≡ limit_of self.old) }
     {
         let lent = self.lent;
         self.lent = 0;
@@ -78,7 +80,8 @@ impl<const HEAD: usize, const AT: usize> RecordReader<HEAD, AT> {
         requires part { IsPartial HEAD AT (held self.old) }
         requires free { length (held self.old) < HEAD + (2 ^ 16 - 1) }
 
-        ensures open { IsOpen self.old → Advances (S.left source.old) (S.left source.new) self.old result self.new }
+        ensures open { IsOpen self.old
+            → Advances (S.left source.old) (S.left source.new) self.old result self.new }
         ensures again { Repeats self.old result self.new source.old source.new }
         ensures lends { Shifts self.old result self.new }
         ensures cause { HasCause (S.faults source.old) (S.faults source.new) result }
@@ -101,10 +104,12 @@ impl<const HEAD: usize, const AT: usize> RecordReader<HEAD, AT> {
     fn step<S: Source>(&mut self, source: &mut S) -> Result<Step, Failed>
         requires usable { self.old.inlet.gate ≢ gate.Spent }
 
-        ensures open { IsOpen self.old → Advances (S.left source.old) (S.left source.new) self.old result self.new }
+        ensures open { IsOpen self.old
+            → Advances (S.left source.old) (S.left source.new) self.old result self.new }
         ensures again { Repeats self.old result self.new source.old source.new }
         ensures lends { Shifts self.old result self.new }
-        ensures no_read { IsWhole HEAD AT (rest self.old) → (source.new ≡ source.old) × IsOk result }
+        ensures no_read { IsWhole HEAD AT (rest self.old) → (source.new ≡ source.old)
+            × IsOk result }
         ensures cause { HasCause (S.faults source.old) (S.faults source.new) result }
     {
         self.release();
@@ -119,12 +124,14 @@ impl<const HEAD: usize, const AT: usize> RecordReader<HEAD, AT> {
     fn advance<S: Source>(&mut self, source: &mut S) -> Result<Step, Failed>
         requires usable { self.old.inlet.gate ≢ gate.Spent }
 
-        ensures open { IsOpen self.old → Advances (S.left source.old) (S.left source.new) self.old result self.new }
+        ensures open { IsOpen self.old
+            → Advances (S.left source.old) (S.left source.new) self.old result self.new }
         ensures again { Repeats self.old result self.new source.old source.new }
         ensures shows { IsOpen self.old → ShowsIn (S.left source.old) self.old result self.new }
         ensures usable { IfOk result (λ _. self.new.inlet.gate ≢ gate.Spent) }
         ensures lends { Shifts self.old result self.new }
-        ensures no_read { IsWhole HEAD AT (rest self.old) → (source.new ≡ source.old) × IsOk result }
+        ensures no_read { IsWhole HEAD AT (rest self.old) → (source.new ≡ source.old)
+            × IsOk result }
         ensures cause { HasCause (S.faults source.old) (S.faults source.new) result }
     {
         self.step(source)
@@ -147,21 +154,26 @@ impl<const HEAD: usize, const AT: usize> RecordReader<HEAD, AT> {
 
     /// Lends the next record, its head included, or says why there is none.
     ///
-    /// It reads only while the octets held contain no whole record. What it lends stays held until the next call. `End`,
-    /// `Truncated` and `OverLimit` are given again by later calls, without a read. `Failed` comes only where the source's faults
-    /// rose: the reader is then spent.
+    /// It reads only while the octets held contain no whole record. What it lends stays held until
+    /// the next call. `End`, `Truncated` and `OverLimit` are given again by later calls, without a
+    /// read. `Failed` comes only where the source's faults rose: the reader is then spent.
     pub fn next<S: Source>(&mut self, source: &mut S) -> Result<Next<'_>, Failed>
         requires usable { IsUsable self.old }
 
-        ensures no_read { IsWhole HEAD AT (rest self.old) → (source.new ≡ source.old) × IsOk result }
+        ensures no_read { IsWhole HEAD AT (rest self.old) → (source.new ≡ source.old)
+            × IsOk result }
         ensures cause { HasCause (S.faults source.old) (S.faults source.new) result }
 
         ensures record { LendsRecord HEAD AT result }
-        ensures exact { IsOpen self.old → TellsIn HEAD AT (S.left source.old) (rest self.old) (limit_of self.old - given self.old) result }
-        ensures ended_again { HasEnded self.old → (source.new ≡ source.old) × EndsAgain (rest self.old) result }
-        ensures over_again { IsOver self.old → (source.new ≡ source.old) × (result ≡ Ok Next.OverLimit) }
+        ensures exact { IsOpen self.old → TellsIn HEAD AT (S.left source.old) (rest self.old)
+            (limit_of self.old - given self.old) result }
+        ensures ended_again { HasEnded self.old → (source.new ≡ source.old)
+            × EndsAgain (rest self.old) result }
+        ensures over_again { IsOver self.old → (source.new ≡ source.old)
+            × (result ≡ Ok Next.OverLimit) }
 
-        ensures* after_borrow { sem 𝓛 (RestsAt HEAD.row AT.row self.entry (λ new. Leaves (S.left source.old) (S.left source.new) self.old result new)) }
+        ensures* after_borrow { sem 𝓛 (RestsAt HEAD.row AT.row self.entry
+            (λ new. Leaves (S.left source.old) (S.left source.new) self.old result new)) }
     {
         match self.advance(source)? {
             Step::Record => Ok(Next::Record(self.record())),

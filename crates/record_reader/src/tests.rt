@@ -5,7 +5,7 @@ use amr_io::{Failed, MemorySource};
 use std::alloc::{AllocError, Global};
 use std::test::Fail;
 
-// An answer of a reader: of a record its length and its last octet. After a failure no call is made.
+// An answer of a reader: of a record its length and its last octet.
 #[derive(Clone, Copy, Debug, PartialEq, Eq)]
 enum Seen {
     Record { len: usize, last: u8 },
@@ -28,7 +28,8 @@ fn shape_of(next: Next<'_>) -> Seen {
     }
 }
 
-// The first four answers over these octets, of which at most `limit` are taken and `cut` a read, and how many octets were given.
+// The first four answers over these octets, at most `limit` of them and `cut` a read, and how many
+// octets were given. After a failure no call is made.
 fn answers_of<const HEAD: usize, const AT: usize>(
     alloc: Global,
     octets: &[u8],
@@ -65,7 +66,7 @@ fn records_come_in_order_however_reads_are_cut(rt: HostRuntime) -> Result<(), Fa
     let short: &[u8] = &[0, 1, 7, 0, 0];
     let long: &[u8] = &[0, 1, 9, 9, 9, 9, 9, 9, 7, 0, 0, 5, 5, 5, 5, 5, 0];
     let behind: &[u8] = &[9, 9, 9, 9, 0, 1, 7, 5, 5, 5, 5, 0, 0];
-    // How many octets there are of a log with heads of 2, 8 and 6 octets, the limit, and the answers.
+    // How many octets there are of a log, the limit, and the answers, for heads of 2, 8 and 6.
     let rows2: [(usize, u64, [Seen; 4]); 4] = [
         (5, 9, [one(3), none(2), end, end]),
         (5, 4, [one(3), over, over, over]),

@@ -1,5 +1,5 @@
 -- Records at the front of a log.
-use Rattle.std.proofs.Common.{ℕ, ◌+◌, ◌<◌, List, [], ◌∷◌, length, arith}
+use Rattle.std.proofs.Common.{ℕ, ◌<◌, List, [], ◌∷◌, length, arith}
 use Rattle.spec_packet.specs.Log.{IsPartial}
 use Rattle.rtp_packet.specs.Record.{need, IsWhole}
 

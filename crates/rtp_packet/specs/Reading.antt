@@ -1,5 +1,5 @@
 -- What a reader of a log holds. The reader is ours; records are those of RFC 4571, 2.
-use Rattle.std.specs.Prelude.{◌≡◌, ◌≢◌, ℕ, ◌+◌, ◌<◌, ◌^◌, List, [], ◌++◌, length, Option, IfSome}
+use Rattle.std.specs.Prelude.{◌≡◌, ℕ, ◌+◌, ◌<◌, ◌^◌, List, [], ◌++◌, length, Option, IfSome}
 use Rattle.spec_packet.specs.Log.{IsPartial}
 use Rattle.record_reader.specs.Reading as reader
 use Rattle.rtp_packet.specs.declared.log_reader.LogReader.{LogReader}
@@ -54,4 +54,5 @@ Exhausts left octets = IfSome left (λ all. all ≡ octets)
 
 -- these octets were read, and no record is whole
 abbrev pub Stops : List ℕ → LogReader → LogReader → Type 0
-Stops more old new = (rest old ++ more ≡ rest new) × IsPartial (rest new) × (length (rest new) < 2 ^ 16 + 1)
+Stops more old new = (rest old ++ more ≡ rest new) × IsPartial (rest new)
+    × (length (rest new) < 2 ^ 16 + 1)

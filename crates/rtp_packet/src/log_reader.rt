@@ -71,20 +71,24 @@ impl LogReader {
 
     /// Lends the next record, or says why there is none.
     ///
-    /// It reads only while the octets held contain no whole record. What it lends stays held until the next call. `End`,
-    /// `Truncated` and `OverLimit` are given again by later calls, without a read. `Failed` comes only where the source's faults
-    /// rose: the reader is then spent.
+    /// It reads only while the octets held contain no whole record. What it lends stays held until
+    /// the next call. `End`, `Truncated` and `OverLimit` are given again by later calls, without a
+    /// read. `Failed` comes only where the source's faults rose: the reader is then spent.
     pub fn next<S: Source>(&mut self, source: &mut S) -> Result<Next<'_>, Failed>
         requires usable { IsUsable self.old }
 
         ensures no_read { IsWhole (rest self.old) → (source.new ≡ source.old) × IsOk result }
         ensures cause { HasCause (S.faults source.old) (S.faults source.new) result }
 
-        ensures exact { IsOpen self.old → TellsIn (S.left source.old) (rest self.old) (limit_of self.old - given self.old) result }
-        ensures ended_again { HasEnded self.old → (source.new ≡ source.old) × EndsAgain (rest self.old) result }
-        ensures over_again { IsOver self.old → (source.new ≡ source.old) × (result ≡ Ok Next.OverLimit) }
+        ensures exact { IsOpen self.old → TellsIn (S.left source.old) (rest self.old)
+            (limit_of self.old - given self.old) result }
+        ensures ended_again { HasEnded self.old → (source.new ≡ source.old)
+            × EndsAgain (rest self.old) result }
+        ensures over_again { IsOver self.old → (source.new ≡ source.old)
+            × (result ≡ Ok Next.OverLimit) }
 
-        ensures* after_borrow { sem 𝓛 (RestsAt self.entry self.old (S.left source.old) (S.left source.new) result) }
+        ensures* after_borrow { sem 𝓛 (RestsAt self.entry self.old
+            (S.left source.old) (S.left source.new) result) }
     {
         Ok(packet_in(self.records.next(source)?))
     }

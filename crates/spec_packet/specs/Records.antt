@@ -1,5 +1,6 @@
--- Records behind one another: each is a head of `head` octets, in which 16 bits from octet `at` on tell how many octets
--- follow it. The records of a packet log are those of RFC 4571, 2, with a head of 2 octets and the length at octet 0.
+-- Records behind one another: each is a head of `head` octets, in which 16 bits from octet `at` on
+-- tell how many octets follow it. The records of a packet log are those of RFC 4571, 2, with a head
+-- of 2 octets and the length at octet 0.
 use Rattle.std.specs.Prelude.{◌≡◌, ℕ, ◌+◌, ◌*◌, ◌≤◌, ◌<◌, Bool, cond, nat_eq, List, [], ◌∷◌, ◌++◌, length, get_or, fold}
 use Rattle.std.specs.List.{AllByRecursion, concat}
 
@@ -26,7 +27,8 @@ abbrev pub AreRecords : ℕ → ℕ → List (List ℕ) → Type 0
 AreRecords head at records = AllByRecursion (λ (octets : List ℕ). IsRecord head at octets) records
 
 -- octets are these records, and then less than a record
-pub record IsCut (head at : ℕ) (octets : List ℕ) (records : List (List ℕ)) (rest : List ℕ) : Type 0 where
+pub record IsCut (head at : ℕ) (octets : List ℕ) (records : List (List ℕ)) (rest : List ℕ)
+    : Type 0 where
   pub join : octets ≡ concat records ++ rest
   pub whole : AreRecords head at records
   pub partial : IsPartial head at rest
@@ -48,4 +50,5 @@ with_octet head at c octet = let rest = c.rest ++ octet ∷ [] in cond (has_size
 
 -- the cut of octets, to compute it: the one pair with IsCut
 abbrev pub cut : ℕ → ℕ → List ℕ → Cut
-cut head at octets = let empty : Cut = record { records = []; rest = [] } in fold (with_octet head at) empty octets
+cut head at octets = let empty : Cut = record { records = []; rest = [] } in
+    fold (with_octet head at) empty octets

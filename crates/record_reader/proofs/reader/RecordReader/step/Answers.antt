@@ -1,4 +1,4 @@
-use Rattle.std.proofs.Common.{ℕ, [], arith, ◌∙◌, sym, refl, append-nil, take-append-drop}
+use Rattle.std.proofs.Common.{[], arith, ◌∙◌, sym, refl, append-nil, take-append-drop}
 use Rattle.std.proofs.KnownBytes.{Consumes-nil}
 use Rattle.record_reader.proofs.reader.RecordReader.step.Goals as goal
 
