@@ -157,6 +157,7 @@ impl<const HEAD: usize, const AT: usize> RecordReader<HEAD, AT> {
     /// It reads only while the octets held contain no whole record. What it lends stays held until
     /// the next call. `End`, `Truncated` and `OverLimit` are given again by later calls, without a
     /// read. `Failed` comes only where the source's faults rose: the reader is then spent.
+    #[inline(always)]
     pub fn next<S: Source>(&mut self, source: &mut S) -> Result<Next<'_>, Failed>
         requires usable { IsUsable self.old }
 

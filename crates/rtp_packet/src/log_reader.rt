@@ -17,6 +17,7 @@ pub struct LogReader {
 }
 
 /// Of a record the packet behind its length, and any other answer as it is.
+#[inline(always)]
 fn packet_in(next: NextRecord<'_>) -> Next<'_>
     requires record { LendsRecord 2 0 (Ok next) }
 
