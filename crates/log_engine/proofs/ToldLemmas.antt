@@ -14,7 +14,7 @@ use Rattle.log_engine.specs.Run.{Broke, BrokeEnding, Ended, Passed, Stopped, Too
 use Rattle.rtp_packet.specs.Reading.{Exhausts}
 use Rattle.run_report.specs.declared.end.RunEnd.{RunEnd}
 use Rattle.run_report.specs.declared.end.RunEnd.TheVariants as end
-use Rattle.session_laws.proofs.Cut.{cut_one}
+use Rattle.record_reader.proofs.LogCut.{cut_one}
 use Rattle.spec_packet.specs.Log.{AreRecords, Cut, IsPartial, cut, framed, is_whole, log_of, with_octet}
 use Rattle.spec_run.specs.Flows.{Flow}
 use Rattle.spec_run.specs.LogRuns.{MOST_HELD, RecordsJob, log_end, records_of, rest_end, rest_of}

@@ -1,5 +1,4 @@
 pub mod Records
-pub mod Shown
 pub mod Octets
 pub mod Padded
 pub mod Ends

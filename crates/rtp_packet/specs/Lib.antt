@@ -2,6 +2,7 @@ pub mod Record
 pub mod Reading
 pub mod Lent
 pub mod Cause
+pub mod Unframed
 pub mod View
 pub mod Written
 pub mod Fields

@@ -1,5 +1,5 @@
 -- Records at the front of a log (RFC 4571, 2).
-use Rattle.std.specs.Prelude.{◌≡◌, ℕ, ◌+◌, ◌*◌, ◌≤◌, ◌<◌, ◌^◌, List, [], ◌∷◌, ◌++◌, drop, length, slice_range}
+use Rattle.std.specs.Prelude.{◌≡◌, ℕ, ◌+◌, ◌*◌, ◌≤◌, ◌<◌, ◌^◌, List, [], ◌∷◌, ◌++◌, length}
 use Rattle.spec_packet.specs.Log.{framed}
 
 -- how many octets the first record has, its length included, as far as they tell
@@ -11,11 +11,6 @@ need (a ∷ b ∷ rest) = 2 + (256 * a + b)
 -- at least a whole record
 abbrev pub IsWhole : List ℕ → Type 0
 IsWhole octets = need octets ≤ length octets
-
--- the first n octets are a record
-abbrev pub StartsWith : List ℕ → ℕ → Type 0
-StartsWith octets n = (n ≡ need octets) × (n ≤ length octets) × (octets ≡ framed (slice_range octets 2 n) ++ drop n octets)
-    × (2 ≤ n) × (n < 2 ^ 16 + 2)
 
 -- a record with this packet stands first, within the first `room` octets
 abbrev pub IsFirst : List ℕ → ℕ → List ℕ → Type 0

@@ -4,7 +4,6 @@
 
 mod fields;
 mod fit;
-mod head;
 mod header;
 mod law;
 mod log_reader;

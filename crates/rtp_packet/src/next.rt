@@ -14,11 +14,3 @@ pub enum Next<'a> {
     /// As many octets as the limit allows were taken, their whole records were given, and one octet more came.
     OverLimit,
 }
-
-// How far a reader came: a record is lent, or none is whole and nothing more comes.
-#[derive(Clone, Copy, Debug, PartialEq, Eq)]
-pub(crate) enum Step {
-    Record,
-    End,
-    OverLimit,
-}

@@ -1,5 +1,4 @@
-ghost use Rattle.std.specs.Prelude.{◌≡◌, ◌≢◌};
-ghost use Rattle.amr_io.specs.declared.gate.Gate.TheVariants as gate;
+ghost use Rattle.rtp_packet.specs.Reading.{IsUsable};
 
 use crate::{LogReader, Next};
 use amr_io::{Failed, MemorySource};
@@ -35,7 +34,7 @@ fn shape_of(next: Next<'_>) -> Seen {
 }
 
 fn five_answers(reader: &mut LogReader, source: &mut MemorySource) -> [Seen; 5]
-    requires usable { reader.old.inlet.gate ≢ gate.Spent }
+    requires usable { IsUsable reader.old }
 {
     let mut answers = [Seen::NotAsked; 5];
     for i in 0..5 {

@@ -1,4 +1,3 @@
-pub mod Cut
 pub mod Places
 pub mod Prefix
 pub mod Recordings

@@ -1,3 +1,4 @@
 pub mod Log
+pub mod Records
 pub mod Rtp
 pub mod RtpReading
