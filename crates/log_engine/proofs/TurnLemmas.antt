@@ -6,6 +6,7 @@ use Rattle.amr_io.specs.declared.source.Failed.{Failed}
 use Rattle.amr_io.specs.declared.source.Source as source
 use Rattle.log_engine.specs.Run.{Ended, Why}
 use Rattle.log_engine.specs.Turns.{Brought, Missed, State, Went}
+use Rattle.rtp_packet.proofs.Records.{taken_within}
 use Rattle.rtp_packet.specs.Lent.{Brings, Gives, GoesOn}
 use Rattle.rtp_packet.specs.Reading.{Exhausts, Stops, limit_of, rest, taken_of}
 use Rattle.rtp_packet.specs.declared.log_reader.LogReader.{LogReader}
@@ -14,10 +15,6 @@ use Rattle.run_report.specs.declared.end.RunEnd.{RunEnd}
 use Rattle.run_report.specs.declared.end.RunEnd.TheVariants as end
 use Rattle.spec_run.specs.Flows.{Flow, read_from}
 use Rattle.spec_run.specs.LogRuns.{rest_end}
-
--- a reader takes no more than its limit: a promise of the reader's type, which its contracts don't repeat
-within_limit : (reader : LogReader) → taken_of reader ≤ limit_of reader
-within_limit reader = reader.limited
 
 -- the answer of a reader, once it is known
 pub gives_at : (left left' : Option (List ℕ)) (old new : LogReader) (r r' : Result Next Failed)
@@ -32,7 +29,7 @@ went_of : (input : Flow) (old new : LogReader) (r : Result Next Failed) (extra :
 went_of input old new r extra w took = record {
   took = took;
   taken = w.2;
-  within = within_limit new;
+  within = taken_within new;
   limit = w.3;
   held = w.4;
 }
