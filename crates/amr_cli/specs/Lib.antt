@@ -1,3 +1,4 @@
+pub mod Host
 pub mod Jobs
 pub mod Noted
 pub mod Runs
