@@ -95,7 +95,8 @@ fn longest(cells: &[Cell]) -> usize
 fn put_row(cells: &[Cell], octet: usize, start: usize, out: &mut [u8]) -> usize
     requires { start + length (row_part (frames_of cells.now) octet) ≤ length out.old }
     ensures at { result ≡ start + length (row_part (frames_of cells.now) octet) }
-    ensures octets { take result out.new ≡ take start out.old ++ row_part (frames_of cells.now) octet }
+    ensures octets { take result out.new
+        ≡ take start out.old ++ row_part (frames_of cells.now) octet }
 {
     let mut at = start;
     for cell in cells {

@@ -15,11 +15,6 @@ pub either : (b : Bool) → (b ≡ true) ⊎ (b ≡ false)
 either true = inl refl
 either false = inr refl
 
--- no CRC marks no frame
-pub marked_none : (p : Profile) (fs : List Frame) → marked p fs [] ≡ fs
-marked_none p [] = refl
-marked_none p (f ∷ fs) = ap {B = List Frame} (λ t. f ∷ t) (marked_none p fs)
-
 -- a frame with this Q
 abbrev with_q : Frame → Bool → Frame
 with_q f q = record { ft = f.ft; q = q; bits = f.bits }

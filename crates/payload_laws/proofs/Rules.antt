@@ -1,42 +1,18 @@
--- What it says of octets that no rule refuses them, where the format is octet-aligned.
-use Rattle.std.proofs.Common.{◌≡◌, ℕ, ◌+◌, ◌*◌, ◌/◌, ◌%◌, ◌<◌, ◌≤◌, Bool, true, false, cond, not, ◌||◌, eqb, ltb, List, [], ◌∷◌, ◌++◌, length, sym, ap, ◌∙◌, arith, refl, Option, Some, None, append_assoc, inl, inr}
+-- What it says of octets that none of the rules P1 to P10 refuses them, in any format, and how the end of a table is found.
+use Rattle.std.proofs.Common.{◌≡◌, ℕ, ◌+◌, ◌*◌, ◌/◌, ◌%◌, ◌<◌, ◌≤◌, Bool, true, false, not, ◌||◌, eqb, ltb, List, [], length, sym, ap, ◌∙◌, arith, refl, Option, Some, None, inl, inr}
 use Rattle.std.specs.Prelude.{is_some}
 use Rattle.std.specs.Option.{unwrap_or}
 use Rattle.std.proofs.lemmas.Bool.{eq-eqb, ltb-false, eqb-false}
 use Rattle.std.proofs.lemmas.Bool.Decides.{eqb_tells}
-use Rattle.amr_bits.specs.Layout.{Mark}
-use Rattle.amr_frame.specs.declared.codec.Codec.{Codec}
 use Rattle.amr_frame.specs.declared.profile.Profile.{Profile}
-use Rattle.amr_frame.specs.First.{when, first}
+use Rattle.amr_frame.specs.First.{when}
 use Rattle.amr_frame.specs.Profiles.{group_bound}
 use Rattle.amr_frame.specs.Tables.{is_reserved}
+use Rattle.amr_frame.proofs.FirstLemmas.{first_none, when_none, or_false, or_true, is_none_of, three_none, third}
 use Rattle.spec_payload.specs.declared.refusal.PayloadRefusal.{PayloadRefusal}
 use Rattle.spec_payload.specs.declared.refusal.PayloadRefusal.TheVariants as why
 use Rattle.spec_payload.specs.Reading.{entries, entry_start, entry_fault, ends_table, last_entry, more_at, type_at, types, need, payload_refusal, where_grouped, ill, ilp}
-use Rattle.payload_laws.proofs.Formats.{first_none, when_none, or_false, is_none_of}
-use Rattle.payload_laws.proofs.Ranges.{first_of_range}
-
--- an octet-aligned format by what it leaves open
-abbrev pub aligned : Codec → ℕ → Bool → Bool → Option ℕ → ℕ → Profile
-aligned codec channels crc sorting group most = record { codec = codec; channels = channels; octet_aligned = true; crc = crc; sorting = sorting; interleaving = group; max_blocks = most }
-
-pub aligned_is : (p : Profile) → p.octet_aligned ≡ true → aligned p.codec p.channels p.crc p.sorting p.interleaving p.max_blocks ≡ p
-aligned_is p e = λ i. record { codec = p.codec; channels = p.channels; octet_aligned = sym e i; crc = p.crc; sorting = p.sorting; interleaving = p.interleaving; max_blocks = p.max_blocks }
-
--- how many octets stand before the table, and the first octets behind it
-abbrev pub heads : Option ℕ → ℕ
-heads group = cond (is_some group) 2 1
-
-pub head_bits_are : (group : Option ℕ) → cond (is_some group) 16 8 ≡ 8 * heads group
-head_bits_are None = refl
-head_bits_are (Some most) = refl
-
-pub behind_table : (group : Option ℕ) (n : ℕ) → (cond (is_some group) 16 8 + n * 8) / 8 ≡ heads group + n
-behind_table group n = let h = head_bits_are group in omega arith
-
--- the six parts of a layout
-pub six : (a b c d e f : List Mark) → a ++ b ++ c ++ d ++ e ++ f ≡ (a ++ b) ++ (c ++ (d ++ (e ++ f)))
-six a b c d e f = simp append_assoc
+use Rattle.payload_laws.proofs.Ranges.{find_from, first_of_range}
 
 -- F of an entry that doesn't end the table
 more_of : (b : Bool) → not b ≡ false → b ≡ true
@@ -44,45 +20,55 @@ more_of true e = refl
 more_of false e = absurd cc
 
 -- F of the last entry
-last_of : (o : Option PayloadRefusal) (b : Bool) → o ≡ None → (is_some o || not b) ≡ true → b ≡ false
+last_of : (o : Option PayloadRefusal) (b : Bool) → o ≡ None → (is_some o || not b) ≡ true
+    → b ≡ false
 last_of None true n e = absurd cc
 last_of None false n e = refl
 last_of (Some x) b n e = absurd cc
 
--- none of three rules holds
-three_none : (a b d : Bool) (x y z : PayloadRefusal) → first (when a x ∷ when b y ∷ when d z ∷ []) ≡ None → (a ≡ false) × (b ≡ false) × (d ≡ false)
-three_none a b d x y z e =
-    let f = first_none (when a x) (when b y ∷ when d z ∷ []) e in
-    let g = first_none (when b y) (when d z ∷ []) f.1 in
-    let h = first_none (when d z) [] g.1 in
-    (when_none a x f.0, when_none b y g.0, when_none d z h.0)
+-- the table goes on at an entry with F = 1 and nothing wrong
+pub going : (o : Option PayloadRefusal) (b : Bool) → o ≡ None → b ≡ true
+    → (is_some o || not b) ≡ false
+going o b e f = rw (e, f) refl
 
--- the third of three rules holds
-third : (a b d : Bool) (x y z : PayloadRefusal) → d ≡ true → is_some (first (when a x ∷ when b y ∷ when d z ∷ [])) ≡ true
-third true b d x y z e = refl
-third false true d x y z e = refl
-third false false d x y z e = rw e refl
+-- the table ends at an entry with F = 0
+pub stopped : (o : Option PayloadRefusal) (b : Bool) → b ≡ false → (is_some o || not b) ≡ true
+stopped None b f = rw f refl
+stopped (Some x) b f = refl
 
--- where the first of two holds
-or_true : (a b : Bool) → a ≡ true → (a || b) ≡ true
-or_true true b e = refl
-or_true false b e = absurd cc
+-- the last entry is the first that ends the table
+pub last_is : (p : Profile) (octets : List ℕ) (k : ℕ) → k ≤ p.max_blocks * p.channels
+    → ((j : ℕ) → j < k → ends_table p octets j ≡ false) → ends_table p octets k ≡ true
+    → last_entry p octets ≡ k
+last_is p octets k h none hit = ap (λ (o : Option ℕ). unwrap_or o 0) (find_from (ends_table p octets) 0 (p.max_blocks * p.channels + 1) k (omega arith) (omega arith) (λ j l x. none j x) hit)
 
 -- the table ends at the latest one entry past the most
-stops_at_most : (p : Profile) (octets : List ℕ) → ends_table p octets (p.max_blocks * p.channels) ≡ true
+stops_at_most : (p : Profile) (octets : List ℕ)
+    → ends_table p octets (p.max_blocks * p.channels) ≡ true
 stops_at_most p octets =
     let most = p.max_blocks * p.channels in
     or_true (is_some (entry_fault p octets most)) (not (more_at p octets most))
     (third (ltb (8 * length octets) (entry_start p (most + 1))) (is_reserved p.codec (type_at p octets most)) (eqb most most) (why.TocUnended most) (why.ReservedType most (type_at p octets most)) why.TooManyBlocks (eq-eqb most most refl))
 
 -- a rule for formats that interleave, where the format does
-grouped_none : {X : Type 0} (o : Option ℕ) (rule : ℕ → Option X) (most : ℕ) → where_grouped o rule ≡ None → o ≡ Some most → rule most ≡ None
+grouped_none : {X : Type 0} (o : Option ℕ) (rule : ℕ → Option X) (most : ℕ)
+    → where_grouped o rule ≡ None → o ≡ Some most → rule most ≡ None
 grouped_none None rule most e f = absurd cc
 grouped_none (Some m) rule most e f = let h : m ≡ most = cc in ap rule (sym h) ∙ e
+
+-- and one that doesn't hold wherever the format does
+pub not_grouped : {X : Type 0} (o : Option ℕ) (rule : ℕ → Option X)
+    → ((most : ℕ) → o ≡ Some most → rule most ≡ None) → where_grouped o rule ≡ None
+not_grouped None rule h = refl
+not_grouped (Some most) rule h = h most refl
 
 -- below the next, and not equal
 not_equal : (a b : ℕ) → a < b + 1 → (a ≡ b → ⊥) → a < b
 not_equal a b l n = elim (eqb_tells a b) [ inl t ↦ absurd (n t.1) | inr t ↦ omega (arith, t.1) ]
+
+-- a number that isn't 0
+pub above : (n : ℕ) → (n ≡ 0 → ⊥) → 0 < n
+above n h = omega (arith, h)
 
 -- the interleaving octet is there, its index is below the stride, and the group is small enough
 pub record Groups (octets : List ℕ) (blocks most : ℕ) : Type 0 where
@@ -90,10 +76,13 @@ pub record Groups (octets : List ℕ) (blocks most : ℕ) : Type 0 where
   pub index : ilp octets ≤ ill octets
   pub group : blocks * (ill octets + 1) ≤ most
 
+-- what the rules ask of octets
 pub record Good (p : Profile) (octets : List ℕ) : Type 0 where
+  pub some : 0 < length octets
   pub goes : (k : ℕ) → k + 1 < entries p octets → more_at p octets k ≡ true
   pub ends : (k : ℕ) → k + 1 ≡ entries p octets → more_at p octets k ≡ false
-  pub groups : (most : ℕ) → group_bound p.interleaving ≡ Some most → Groups octets (entries p octets / p.channels) most
+  pub groups : (most : ℕ) → group_bound p.interleaving ≡ Some most
+      → Groups octets (entries p octets / p.channels) most
   pub known : (k : ℕ) → k < entries p octets → is_reserved p.codec (type_at p octets k) ≡ false
   pub few : entries p octets ≤ p.max_blocks * p.channels
   pub rows : entries p octets % p.channels ≡ 0
@@ -130,6 +119,7 @@ good p octets e =
     let three = λ (k : ℕ) (l : k < at + 1). three_none (ltb (8 * have) (entry_start p (k + 1))) (is_reserved p.codec (type_at p octets k)) (eqb k most) (why.TocUnended k) (why.ReservedType k (type_at p octets k)) why.TooManyBlocks (faultless k l) in
     let below : at < most = let t = eqb-false at most (three at (omega arith)).2 in let hi = found.high in not_equal at most (omega arith) t in
     record {
+      some = above have (eqb-false have 0 (when_none (eqb have 0) why.Empty f1.0));
       goes = λ k l. more_of (more_at p octets k) (before k (omega arith)).1;
       ends = λ k l. let z : k ≡ at = omega arith in ap (more_at p octets) z ∙ last_of (entry_fault p octets at) (more_at p octets at) at_last found.passes;
       groups = λ m is. record {

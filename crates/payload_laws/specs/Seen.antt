@@ -1,4 +1,4 @@
--- What it is for octets to say something as a payload of a format (RFC 4867, 4.3 and 4.4), by the grammar.
+-- What octets say as a payload of a format, by the grammar (RFC 4867, 4.3 and 4.4).
 use Rattle.std.specs.Prelude.{◌≡◌, ℕ, List}
 use Rattle.amr_frame.specs.declared.profile.Profile.{Profile}
 use Rattle.spec_payload.specs.Grammar.{IsPayload}

@@ -3,42 +3,12 @@ use Rattle.std.proofs.Common.{◌≡◌, ℕ, zero, suc, ◌+◌, ◌-◌, ◌<�
 use Rattle.std.specs.Prelude.{◌&&◌, filter, max}
 use Rattle.std.specs.List.{fold, flat_map, AllByRecursion, range_with_len, position_or_len}
 use Rattle.std.proofs.lemmas.Bool.{cases_lt, eq-eqb, ne_eqb, lt-ltb, le-ltb, ltb-true}
-use Rattle.std.proofs.Math.Nat.{le-max_left, le-max_right}
 use Rattle.std.proofs.lemmas.List.{length-append, length-map}
 use Rattle.std.proofs.lemmas.List.FromFn.{length-range_with_len, fill_by_all}
 use Rattle.std.proofs.lemmas.List.Sums.{sum_by-cons}
+use Rattle.amr_bits.proofs.Lists.{all_append, all_images, all_more, all_range, all_get, all_kept, length-cond, all_below}
 use Rattle.spec_payload.specs.Reading.{is_place}
 use Rattle.spec_payload.specs.RobustOrder.{Place, place, order, plain_order, robust_order}
-
--- what holds of each element of two lists, of images, of a range, and of what a filter keeps
-all_append : {X : Type 0} (P : X → Type 0) (xs ys : List X) → AllByRecursion P xs → AllByRecursion P ys → AllByRecursion P (xs ++ ys)
-all_append P [] ys a b = b
-all_append P (x ∷ xs) ys a b = (a.0, all_append P xs ys a.1 b)
-
-all_images : {X Y : Type 0} (f : X → Y) (P : Y → Type 0) (xs : List X) → AllByRecursion (λ x. P (f x)) xs → AllByRecursion P (map f xs)
-all_images f P [] h = tt
-all_images f P (x ∷ xs) h = (h.0, all_images f P xs h.1)
-
-all_more : {X : Type 0} (P Q : X → Type 0) (xs : List X) → ((x : X) → P x → Q x) → AllByRecursion P xs → AllByRecursion Q xs
-all_more P Q [] f h = tt
-all_more P Q (x ∷ xs) f h = (f x h.0, all_more P Q xs f h.1)
-
-all_range : (P : ℕ → Type 0) (a n : ℕ) → ((k : ℕ) → a ≤ k → k < a + n → P k) → AllByRecursion P (range_with_len a n)
-all_range P a zero h = tt
-all_range P a (suc n) h = (h a (omega arith) (omega arith), all_range P (a + 1) n (λ k l m. h k (omega arith) (omega arith)))
-
-all_cond : {X : Type 0} (P : X → Type 0) (b : Bool) (x : X) (ys : List X) → (b ≡ true → P x) → AllByRecursion P ys → AllByRecursion P (cond b (x ∷ ys) ys)
-all_cond P true x ys a h = (a refl, h)
-all_cond P false x ys a h = h
-
-all_kept : {X : Type 0} (q : X → Bool) (P : X → Type 0) (xs : List X) → AllByRecursion (λ x. q x ≡ true → P x) xs → AllByRecursion P (filter q xs)
-all_kept q P [] h = tt
-all_kept q P (x ∷ xs) h = all_cond P (q x) x (filter q xs) h.0 (all_kept q P xs h.1)
-
-pub all_get : {X : Type 0} (P : X → Type 0) (xs : List X) (i : ℕ) (d : X) → AllByRecursion P xs → i < length xs → P (get_or xs i d)
-all_get P [] i d h l = absurd (omega arith)
-all_get P (x ∷ xs) zero d h l = h.0
-all_get P (x ∷ xs) (suc i) d h l = all_get P xs i d h.1 (omega arith)
 
 -- numbers that grow
 abbrev Grows : List ℕ → Type 0
@@ -49,7 +19,8 @@ grows_range : (a n : ℕ) → Grows (range_with_len a n)
 grows_range a zero = tt
 grows_range a (suc n) = (all_range (λ y. a < y) (a + 1) n (λ k l m. omega arith), grows_range (a + 1) n)
 
-grows_cond : (b : Bool) (x : ℕ) (ys : List ℕ) → AllByRecursion (λ y. x < y) ys → Grows ys → Grows (cond b (x ∷ ys) ys)
+grows_cond : (b : Bool) (x : ℕ) (ys : List ℕ) → AllByRecursion (λ y. x < y) ys → Grows ys
+    → Grows (cond b (x ∷ ys) ys)
 grows_cond true x ys a g = (a, g)
 grows_cond false x ys a g = g
 
@@ -66,7 +37,8 @@ abbrev Distinct : List Place → Type 0
 Distinct [] = Unit {0}
 Distinct (x ∷ xs) = AllByRecursion (Apart x) xs × Distinct xs
 
-distinct_append : (xs ys : List Place) → Distinct xs → Distinct ys → AllByRecursion (λ x. AllByRecursion (Apart x) ys) xs → Distinct (xs ++ ys)
+distinct_append : (xs ys : List Place) → Distinct xs → Distinct ys
+    → AllByRecursion (λ x. AllByRecursion (Apart x) ys) xs → Distinct (xs ++ ys)
 distinct_append [] ys a b h = b
 distinct_append (x ∷ xs) ys a b h = (all_append (Apart x) xs ys a.0 h.0, distinct_append xs ys a.1 b h.1)
 
@@ -83,7 +55,9 @@ module _ (mk : ℕ → ℕ → Place) (outer : (a b c d : ℕ) → a < c → Apa
   distinct_row a (y ∷ ys) g = (all_images (mk a) (Apart (mk a y)) ys (all_more (λ z. y < z) (λ z. Apart (mk a y) (mk a z)) ys (λ z l. inner a y z l) g.0), distinct_row a ys g.1)
 
   -- what holds in each row
-  all_rows : (P : Place → Type 0) (s n : ℕ) → ((a : ℕ) → s ≤ a → a < s + n → AllByRecursion P (row a (members a))) → AllByRecursion P (rows s n)
+  all_rows : (P : Place → Type 0) (s n : ℕ)
+      → ((a : ℕ) → s ≤ a → a < s + n → AllByRecursion P (row a (members a)))
+      → AllByRecursion P (rows s n)
   all_rows P s zero h = tt
   all_rows P s (suc n) h = all_append P (row s (members s)) (rows (s + 1) n) (h s (omega arith) (omega arith)) (all_rows P (s + 1) n (λ a l m. h a (omega arith) (omega arith)))
 
@@ -100,17 +74,18 @@ module _ (mk : ℕ → ℕ → Place) (outer : (a b c d : ℕ) → a < c → Apa
       distinct_append (row s (members s)) (rows (s + 1) n) (distinct_row s (members s) (g s)) (distinct_rows g (s + 1) n)
       (all_images (mk s) (λ x. AllByRecursion (Apart x) (rows (s + 1) n)) (members s) (each (λ z. AllByRecursion (Apart (mk s z)) (rows (s + 1) n)) (members s) (λ z. later s z (s + 1) n (omega arith))))
 
-  length-rows : (s n : ℕ) → length (rows s n) ≡ sum (map (λ a. length (members a)) (range_with_len s n))
+  length-rows : (s n : ℕ)
+      → length (rows s n) ≡ sum (map (λ a. length (members a)) (range_with_len s n))
   length-rows s zero = refl
   length-rows s (suc n) =
       length-append (row s (members s)) (rows (s + 1) n) ∙ ap (λ z. z + length (rows (s + 1) n)) (length-map (members s) (mk s))
       ∙ ap (λ z. length (members s) + z) (length-rows (s + 1) n) ∙ sym (sum_by-cons (λ x. x) (length (members s)) (map (λ a. length (members a)) (range_with_len (s + 1) n)))
 
 -- where one of two tests fails
-fails_first : (a b : Bool) → a ≡ false → (a && b) ≡ false
+pub fails_first : (a b : Bool) → a ≡ false → (a && b) ≡ false
 fails_first a b e = rw e refl
 
-fails_second : (a b : Bool) → b ≡ false → (a && b) ≡ false
+pub fails_second : (a b : Bool) → b ≡ false → (a && b) ≡ false
 fails_second true b e = e
 fails_second false b e = refl
 
@@ -124,25 +99,13 @@ apart_frames a b c d l = fails_second (eqb b d) (eqb a c) (ne_eqb a c (λ e. ome
 apart_octets : (a b c d : ℕ) → a < c → Apart (place a b) (place c d)
 apart_octets a b c d l = fails_first (eqb a c) (eqb b d) (ne_eqb a c (λ e. omega arith))
 
--- the greatest of several numbers and a first one is at least the first, and each other
-max_grows : (xs : List ℕ) (a : ℕ) → a ≤ fold max a xs
-max_grows [] a = omega arith
-max_grows (x ∷ xs) a = let l = le-max_left a x in let r = max_grows xs (max a x) in omega arith
-
-below_max : (xs : List ℕ) (a m : ℕ) → fold max a xs ≤ m → AllByRecursion (λ x. x ≤ m) xs
-below_max [] a m h = tt
-below_max (x ∷ xs) a m h = let l = le-max_right a x in let r = max_grows xs (max a x) in (omega arith, below_max xs (max a x) m h)
-
 -- how many numbers are above o
 abbrev above : List ℕ → ℕ → ℕ
 above ls o = length (filter (λ l. ltb o l) ls)
 
-length-cond : {X Y : Type 0} (b : Bool) (x : X) (xs : List X) (y : Y) (ys : List Y) → length xs ≡ length ys → length (cond b (x ∷ xs) xs) ≡ length (cond b (y ∷ ys) ys)
-length-cond true x xs y ys e = ap suc e
-length-cond false x xs y ys e = e
-
 -- the same by place
-above_by : (ls xs : List ℕ) (o a : ℕ) → ((k : ℕ) → get_or ls (a + k) 0 ≡ get_or xs k 0) → length (filter (λ f. ltb o (get_or ls f 0)) (range_with_len a (length xs))) ≡ above xs o
+above_by : (ls xs : List ℕ) (o a : ℕ) → ((k : ℕ) → get_or ls (a + k) 0 ≡ get_or xs k 0)
+    → length (filter (λ f. ltb o (get_or ls f 0)) (range_with_len a (length xs))) ≡ above xs o
 above_by ls [] o a h = refl
 above_by ls (x ∷ xs) o a h =
     let z : a ≡ a + 0 = omega arith in
@@ -169,11 +132,13 @@ unders_are l s (suc m) h =
 abbrev sum_above : List ℕ → ℕ → ℕ → ℕ
 sum_above ls s m = sum (map (above ls) (range_with_len s m))
 
-length-more : (b : Bool) (x : ℕ) (xs : List ℕ) → length (cond b (x ∷ xs) xs) ≡ cond b 1 0 + length xs
+length-more : (b : Bool) (x : ℕ) (xs : List ℕ)
+    → length (cond b (x ∷ xs) xs) ≡ cond b 1 0 + length xs
 length-more true x xs = omega arith
 length-more false x xs = omega arith
 
-above_more : (l : ℕ) (ls : List ℕ) (s m : ℕ) → sum_above (l ∷ ls) s m ≡ unders l s m + sum_above ls s m
+above_more : (l : ℕ) (ls : List ℕ) (s m : ℕ)
+    → sum_above (l ∷ ls) s m ≡ unders l s m + sum_above ls s m
 above_more l ls s zero = omega arith
 above_more l ls s (suc m) =
     let r = above_more l ls (s + 1) m in
@@ -201,9 +166,10 @@ having ls o = filter (λ f. ltb o (get_or ls f 0)) (range_with_len 0 (length ls)
 length-robust : (ls : List ℕ) → length (robust_order ls) ≡ sum ls
 length-robust ls =
     length-rows place (λ a b c d l. apart_octets a b c d l) (λ a b d l. apart_frames b a d a l) (having ls) 0 (fold max 0 ls)
-    ∙ alike (fold max 0 ls) 0 ∙ all_above ls (fold max 0 ls) (below_max ls 0 (fold max 0 ls) (omega arith))
+    ∙ alike (fold max 0 ls) 0 ∙ all_above ls (fold max 0 ls) (all_below ls 0 (fold max 0 ls) (omega arith))
   where
-    alike : (n s : ℕ) → sum (map (λ o. length (having ls o)) (range_with_len s n)) ≡ sum_above ls s n
+    alike : (n s : ℕ)
+        → sum (map (λ o. length (having ls o)) (range_with_len s n)) ≡ sum_above ls s n
     alike zero s = refl
     alike (suc n) s =
         sum_by-cons (λ x. x) (length (having ls s)) (map (λ o. length (having ls o)) (range_with_len (s + 1) n))
@@ -215,7 +181,8 @@ length-plain ls =
     length-rows by_frame (λ a b c d l. apart_frames a b c d l) (λ a b d l. apart_octets b a d a l) (λ f. range_with_len 0 (get_or ls f 0)) 0 (length ls)
     ∙ alike (length ls) 0 ∙ ap sum (sym (fill_by_all (λ (f : ℕ). get_or ls f 0) ls (length ls) 0 refl (λ k l. refl)))
   where
-    alike : (n s : ℕ) → sum (map (λ f. length (range_with_len 0 (get_or ls f 0))) (range_with_len s n)) ≡ sum (map (λ f. get_or ls f 0) (range_with_len s n))
+    alike : (n s : ℕ)
+        → sum (map (λ f. length (range_with_len 0 (get_or ls f 0))) (range_with_len s n)) ≡ sum (map (λ f. get_or ls f 0) (range_with_len s n))
     alike zero s = refl
     alike (suc n) s =
         sum_by-cons (λ x. x) (length (range_with_len 0 (get_or ls s 0))) (map (λ f. length (range_with_len 0 (get_or ls f 0))) (range_with_len (s + 1) n))
@@ -249,11 +216,13 @@ octets_order false ls =
     (λ f l m. all_images (by_frame f) (IsOctet ls) (range_with_len 0 (get_or ls f 0)) (all_range (λ o. IsOctet ls (place o f)) 0 (get_or ls f 0) (λ o x y. (omega arith, omega arith))))
 
 -- each place is that of an octet
-pub is_octet : (sorting : Bool) (ls : List ℕ) (j : ℕ) (d : Place) → j < length (order sorting ls) → IsOctet ls (get_or (order sorting ls) j d)
+pub is_octet : (sorting : Bool) (ls : List ℕ) (j : ℕ) (d : Place) → j < length (order sorting ls)
+    → IsOctet ls (get_or (order sorting ls) j d)
 is_octet sorting ls j d l = all_get (IsOctet ls) (order sorting ls) j d (octets_order sorting ls) l
 
 -- where places are distinct, each is the first of its kind
-first_met : (xs : List Place) (j : ℕ) (d : Place) → Distinct xs → j < length xs → position_or_len (is_place (get_or xs j d).octet (get_or xs j d).frame) xs ≡ j
+first_met : (xs : List Place) (j : ℕ) (d : Place) → Distinct xs → j < length xs
+    → position_or_len (is_place (get_or xs j d).octet (get_or xs j d).frame) xs ≡ j
 first_met [] j d h l = absurd (omega arith)
 first_met (x ∷ xs) zero d h l =
     let e : is_place x.octet x.frame x ≡ true = rw (eq-eqb x.octet x.octet refl, eq-eqb x.frame x.frame refl) refl in
@@ -265,5 +234,6 @@ first_met (x ∷ xs) (suc j) d h l =
     ap (λ b. cond (not b) (1 + position_or_len (is_place y.octet y.frame) xs) 0) e ∙ omega arith
 
 -- each place of either order is found where it stands
-pub is_met : (sorting : Bool) (ls : List ℕ) (j : ℕ) (d : Place) → j < length (order sorting ls) → position_or_len (is_place (get_or (order sorting ls) j d).octet (get_or (order sorting ls) j d).frame) (order sorting ls) ≡ j
+pub is_met : (sorting : Bool) (ls : List ℕ) (j : ℕ) (d : Place) → j < length (order sorting ls)
+    → position_or_len (is_place (get_or (order sorting ls) j d).octet (get_or (order sorting ls) j d).frame) (order sorting ls) ≡ j
 is_met sorting ls j d l = first_met (order sorting ls) j d (distinct_order sorting ls) l
