@@ -1,6 +1,5 @@
 -- Payloads that are written and read, and read and written again.
-use Rattle.std.proofs.Common.{◌≡◌, ℕ, Bool, true, false, cond, List, [], length, map, sym, refl, ap, ◌∙◌, arith, Some, None}
-use Rattle.std.specs.Prelude.{◌&&◌}
+use Rattle.std.proofs.Common.{◌≡◌, ℕ, true, false, cond, List, [], length, map, sym, ap, ◌∙◌, arith, Some, None}
 use Rattle.std.proofs.lemmas.List.{length-map}
 use Rattle.amr_bits.specs.Bits.{bits_of}
 use Rattle.amr_bits.specs.Layout.{fits, settled}
@@ -15,6 +14,7 @@ use Rattle.amr_toc.specs.Viewed.{format_of, is_damaged}
 use Rattle.payload_laws.proofs.EachFormat.{not_refused as accepted, packed_exactly}
 use Rattle.payload_laws.proofs.Marks.{length-bits_of, fits_length}
 use Rattle.payload_laws.proofs.Formats.{plain_of}
+use Rattle.payload_laws.proofs.Orders.{fails_first}
 use Rattle.payload_laws.proofs.OneValue.{one_value}
 use Rattle.payload_laws.proofs.Whole.{whole}
 use Rattle.spec_payload.specs.declared.refusal.PayloadRefusal.{PayloadRefusal}
@@ -52,11 +52,8 @@ same_value p v w valid packed h r =
     one_value p w v [] [] (text p v) valid (in_grammar p (text p v) w valid packed r) (is_payload p v valid packed h)
 
 -- without CRCs no frame is damaged
-none_of : (a b : Bool) → a ≡ false → (a && b) ≡ false
-none_of a b e = rw e refl
-
 pub undamaged : (view : PayloadView) (k : ℕ) → IsValid (format_of view) → (format_of view).octet_aligned ≡ false → is_damaged view k ≡ false
-undamaged view k valid packed = none_of view.profile.crc _ (plain_of view.profile valid packed).crc
+undamaged view k valid packed = fails_first view.profile.crc _ (plain_of view.profile valid packed).crc
 
 -- what is read is a value
 pub is_value : (p : Profile) (v : Value) (octets : List ℕ) → IsValid p → p.octet_aligned ≡ false → IsRead p octets v → IsValue p v

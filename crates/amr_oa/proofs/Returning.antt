@@ -5,6 +5,7 @@ use Rattle.std.proofs.lemmas.Bool.{eq-eqb}
 use Rattle.amr_frame.specs.declared.profile.Profile.{Profile}
 use Rattle.amr_frame.specs.Frames.{Frame, no_data}
 use Rattle.amr_toc.proofs.Marked.{either}
+use Rattle.payload_laws.proofs.Orders.{fails_first}
 use Rattle.payload_laws.proofs.Seeing.{marked_none}
 use Rattle.spec_payload.specs.Grammar.{check_of, checked}
 use Rattle.spec_payload.specs.Seen.{marked}
@@ -64,7 +65,7 @@ own_check p (f ∷ fs) (suc k) t = by_bits (has_bits f) refl (own_check p fs k t
 pub none_differs : (p : Profile) (fs : List Frame) (k : ℕ)
     → (p.crc && (has_bits (get_or fs k no_data) && not (eqb (get_or (map (check_of p) (checked p fs)) (length (filter has_bits (take k fs))) 0) (check_of p (get_or fs k no_data))))) ≡ false
 none_differs p fs k = elim (either p.crc) [
-  | inr s ↦ fails p.crc _ s
+  | inr s ↦ fails_first p.crc _ s
   | inl s ↦ elim (either (has_bits (get_or fs k no_data))) [
     | inr t ↦ inner p.crc (has_bits (get_or fs k no_data)) _ t
     | inl t ↦
@@ -73,9 +74,6 @@ none_differs p fs k = elim (either p.crc) [
   ]
 ]
   where
-    fails : (a b : Bool) → a ≡ false → (a && b) ≡ false
-    fails a b e = rw e refl
-
     inner : (a b c : Bool) → b ≡ false → (a && (b && c)) ≡ false
     inner true b c e = rw e refl
     inner false b c e = refl

@@ -1,5 +1,5 @@
--- The rules of an octet-aligned payload (RFC 4867, 4.4) in the order in which they are tested, before
--- its table and behind it. The order is this project's own.
+-- The rules of an octet-aligned payload (RFC 4867, 4.4) in the order in which they are tested,
+-- before its table and behind it. The order is this project's own.
 use Rattle.std.specs.Prelude.{ℕ, ◌+◌, ◌*◌, nat_lt, nat_eq, List, [], ◌∷◌, length, Option}
 use Rattle.amr_frame.specs.declared.profile.Profile.{Profile}
 use Rattle.amr_frame.specs.First.{when, first}

@@ -32,7 +32,8 @@ fn octets_in(cell: &Cell) -> usize
 
 /// Writes the frames of cells at an octet, in the order of the format.
 pub(crate) fn put_bodies(profile: &Profile, cells: &[Cell], start: usize, out: &mut [u8])
-    requires { start + length (body_part profile.now.sorting (frames_of cells.now)) ≤ length out.old }
+    requires { start + length (body_part profile.now.sorting (frames_of cells.now))
+        ≤ length out.old }
     ensures { take (start + length (body_part profile.now.sorting (frames_of cells.now))) out.new
         ≡ take start out.old ++ body_part profile.now.sorting (frames_of cells.now) }
 {

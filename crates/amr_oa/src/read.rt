@@ -107,9 +107,10 @@ fn behind_header<'a>(profile: &Profile, octets: &'a [u8]) -> BitSlice<'a>
     requires { cond (is_some profile.now.interleaving) 2 1 ≤ length octets.now }
     ensures bits { run result
         ≡ bits_at octets.now (8 * cond (is_some profile.now.interleaving) 2 1) result.len }
-    ensures fits { 8 * cond (is_some profile.now.interleaving) 2 1 + result.len ≤ 8 * length octets.now }
-    ensures enough { (8 * cond (is_some profile.now.interleaving) 2 1 + result.len ≡ 8 * length octets.now)
-        ⊎ (3080 ≤ result.len) }
+    ensures fits { 8 * cond (is_some profile.now.interleaving) 2 1 + result.len
+        ≤ 8 * length octets.now }
+    ensures enough { (8 * cond (is_some profile.now.interleaving) 2 1 + result.len
+        ≡ 8 * length octets.now) ⊎ (3080 ≤ result.len) }
 {
     let start = 8 * header_octets(profile);
     BitSlice {

@@ -108,7 +108,8 @@ fn entry_of(profile: &Profile, cell: &Cell, more: bool) -> u8
 /// Writes the CRCs of cells at an octet, and gives the place behind them (RFC 4867, 4.4.2.1).
 fn put_checks(profile: &Profile, cells: &[Cell], start: usize, out: &mut [u8]) -> usize
     requires frames { AllByRecursion (IsFrame profile.now.codec) (frames_of cells.now) }
-    requires fits { start + length (checks_part profile.now (frames_of cells.now)) ≤ length out.old }
+    requires fits { start + length (checks_part profile.now (frames_of cells.now))
+        ≤ length out.old }
     ensures at { result ≡ start + length (checks_part profile.now (frames_of cells.now)) }
     ensures octets { take result out.new
         ≡ take start out.old ++ checks_part profile.now (frames_of cells.now) }

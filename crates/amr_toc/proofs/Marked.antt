@@ -50,7 +50,7 @@ differs p f c = has_bits f && not (eqb c (check_of p f))
 abbrev pub seen_as : Frame → Bool → Frame
 seen_as f damaged = with_q f (f.q && not damaged)
 
-keeps_q : (q : Bool) → q ≡ (q && true)
+pub keeps_q : (q : Bool) → q ≡ (q && true)
 keeps_q true = refl
 keeps_q false = refl
 

@@ -1,4 +1,4 @@
--- Where the frames of a payload stand in its octets, by the types of its table (RFC 4867, 4.3, 4.4).
+-- Where the frames of a payload stand in its octets, by its types (RFC 4867, 4.3 and 4.4).
 use Rattle.std.specs.Prelude.{ℕ, ◌+◌, ◌*◌, cond, List, length, map, take, sum}
 use Rattle.std.specs.List.{position_or_len}
 use Rattle.amr_frame.specs.declared.profile.Profile.{Profile}
