@@ -102,30 +102,30 @@ good p octets e =
     let short = λ (m : ℕ). when (ltb have 2) why.HeaderShort in
     let past = λ (m : ℕ). when (ltb (ill octets) (ilp octets)) (why.IndexAboveLength (ill octets) (ilp octets)) in
     let large = λ (m : ℕ). when (ltb m (n / p.channels * (ill octets + 1))) (why.GroupTooLarge (n / p.channels) (ill octets + 1)) in
-    let f1 = first_none (when (eqb have 0) why.Empty) _ e in
-    let f2 = first_none (where_grouped group short) _ f1.1 in
-    let f3 = first_none (where_grouped group past) _ f2.1 in
-    let f4 = first_none (entry_fault p octets (last_entry p octets)) _ f3.1 in
-    let f5 = first_none (when (ltb 0 (n % p.channels)) (why.ChannelRest n)) _ f4.1 in
-    let f6 = first_none (where_grouped group large) _ f5.1 in
-    let f7 = first_none (when (ltb have (need p fts)) (why.BodyShort (need p fts) have)) _ f6.1 in
-    let f8 = first_none (when (ltb (need p fts) have) (why.BodyLong (need p fts) have)) [] f7.1 in
-    let rest = ltb-false 0 (n % p.channels) (when_none (ltb 0 (n % p.channels)) (why.ChannelRest n) f5.0) in
-    let enough = ltb-false have (need p fts) (when_none (ltb have (need p fts)) (why.BodyShort (need p fts) have) f7.0) in
-    let no_more = ltb-false (need p fts) have (when_none (ltb (need p fts) have) (why.BodyLong (need p fts) have) f8.0) in
-    let at_last : entry_fault p octets at ≡ None = ap (entry_fault p octets) (sym last) ∙ f4.0 in
+    let not_empty = first_none (when (eqb have 0) why.Empty) _ e in
+    let has_header = first_none (where_grouped group short) _ not_empty.1 in
+    let index_fits = first_none (where_grouped group past) _ has_header.1 in
+    let faultless_end = first_none (entry_fault p octets (last_entry p octets)) _ index_fits.1 in
+    let whole = first_none (when (ltb 0 (n % p.channels)) (why.ChannelRest n)) _ faultless_end.1 in
+    let small_group = first_none (where_grouped group large) _ whole.1 in
+    let not_short = first_none (when (ltb have (need p fts)) (why.BodyShort (need p fts) have)) _ small_group.1 in
+    let not_long = first_none (when (ltb (need p fts) have) (why.BodyLong (need p fts) have)) [] not_short.1 in
+    let rest = ltb-false 0 (n % p.channels) (when_none (ltb 0 (n % p.channels)) (why.ChannelRest n) whole.0) in
+    let enough = ltb-false have (need p fts) (when_none (ltb have (need p fts)) (why.BodyShort (need p fts) have) not_short.0) in
+    let no_more = ltb-false (need p fts) have (when_none (ltb (need p fts) have) (why.BodyLong (need p fts) have) not_long.0) in
+    let at_last : entry_fault p octets at ≡ None = ap (entry_fault p octets) (sym last) ∙ faultless_end.0 in
     let before : (k : ℕ) → k < at → (is_some (entry_fault p octets k) ≡ false) × (not (more_at p octets k) ≡ false) = λ k l. or_false (is_some (entry_fault p octets k)) (not (more_at p octets k)) (found.none k (omega arith) l) in
     let faultless : (k : ℕ) → k < at + 1 → entry_fault p octets k ≡ None = λ k l. elim (eqb_tells k at) [ inl t ↦ ap (entry_fault p octets) t.1 ∙ at_last | inr t ↦ is_none_of (entry_fault p octets k) (before k (omega (arith, t.1))).0 ] in
     let three = λ (k : ℕ) (l : k < at + 1). three_none (ltb (8 * have) (entry_start p (k + 1))) (is_reserved p.codec (type_at p octets k)) (eqb k most) (why.TocUnended k) (why.ReservedType k (type_at p octets k)) why.TooManyBlocks (faultless k l) in
     let below : at < most = let t = eqb-false at most (three at (omega arith)).2 in let hi = found.high in not_equal at most (omega arith) t in
     record {
-      some = above have (eqb-false have 0 (when_none (eqb have 0) why.Empty f1.0));
+      some = above have (eqb-false have 0 (when_none (eqb have 0) why.Empty not_empty.0));
       goes = λ k l. more_of (more_at p octets k) (before k (omega arith)).1;
       ends = λ k l. let z : k ≡ at = omega arith in ap (more_at p octets) z ∙ last_of (entry_fault p octets at) (more_at p octets at) at_last found.passes;
       groups = λ m is. record {
-        whole = ltb-false have 2 (when_none (ltb have 2) why.HeaderShort (grouped_none group short m f2.0 is));
-        index = ltb-false (ill octets) (ilp octets) (when_none (ltb (ill octets) (ilp octets)) (why.IndexAboveLength (ill octets) (ilp octets)) (grouped_none group past m f3.0 is));
-        group = ltb-false m (n / p.channels * (ill octets + 1)) (when_none (ltb m (n / p.channels * (ill octets + 1))) (why.GroupTooLarge (n / p.channels) (ill octets + 1)) (grouped_none group large m f6.0 is));
+        whole = ltb-false have 2 (when_none (ltb have 2) why.HeaderShort (grouped_none group short m has_header.0 is));
+        index = ltb-false (ill octets) (ilp octets) (when_none (ltb (ill octets) (ilp octets)) (why.IndexAboveLength (ill octets) (ilp octets)) (grouped_none group past m index_fits.0 is));
+        group = ltb-false m (n / p.channels * (ill octets + 1)) (when_none (ltb m (n / p.channels * (ill octets + 1))) (why.GroupTooLarge (n / p.channels) (ill octets + 1)) (grouped_none group large m small_group.0 is));
       };
       known = λ k l. (three k (omega arith)).1;
       few = omega arith;
