@@ -1,22 +1,21 @@
 -- Payloads that are written and read, and read and written again.
-use Rattle.std.proofs.Common.{◌≡◌, ℕ, Bool, true, false, cond, List, [], length, map, sym, refl, ap, ◌∙◌, arith, Some, None}
-use Rattle.std.specs.Prelude.{◌&&◌}
+use Rattle.std.proofs.Common.{◌≡◌, ℕ, true, false, cond, List, [], length, map, sym, ap, ◌∙◌, arith, Some, None}
 use Rattle.std.proofs.lemmas.List.{length-map}
 use Rattle.amr_bits.specs.Bits.{bits_of}
 use Rattle.amr_bits.specs.Layout.{fits, settled}
 use Rattle.amr_be.proofs.Canonical.{settled_layout, text_is}
 use Rattle.amr_frame.specs.declared.profile.Profile.{Profile}
 use Rattle.amr_frame.specs.Profiles.{IsValid}
-use Rattle.amr_toc.proofs.Settled.{cleared_is, fits_length, fits_settled, bits_of_filled}
+use Rattle.amr_toc.proofs.Settled.{cleared_is, fits_settled, bits_of_filled}
 use Rattle.amr_toc.specs.Cleared.{cleared}
 use Rattle.amr_toc.specs.declared.view.PayloadView.{PayloadView}
 use Rattle.amr_toc.specs.Told.{IsRead, IsRefused}
 use Rattle.amr_toc.specs.Viewed.{format_of, is_damaged}
-use Rattle.payload_laws.proofs.EachFormat.{not_refused_of}
-use Rattle.payload_laws.proofs.Entries.{length-bits_of}
+use Rattle.payload_laws.proofs.EachFormat.{not_refused as accepted, packed_exactly}
+use Rattle.payload_laws.proofs.Marks.{length-bits_of, fits_length}
 use Rattle.payload_laws.proofs.Formats.{plain_of}
+use Rattle.payload_laws.proofs.Orders.{fails_first}
 use Rattle.payload_laws.proofs.OneValue.{one_value}
-use Rattle.payload_laws.proofs.Seeing.{read_exactly}
 use Rattle.payload_laws.proofs.Whole.{whole}
 use Rattle.spec_payload.specs.declared.refusal.PayloadRefusal.{PayloadRefusal}
 use Rattle.spec_payload.specs.Grammar.{IsPayload, layout, text, checked}
@@ -39,13 +38,13 @@ is_payload p v valid packed h = record {
 -- none of the rules refuses them
 pub not_refused : (p : Profile) (v : Value) (why : PayloadRefusal) → IsValid p → p.octet_aligned ≡ false → IsValue p v → IsRefused p (text p v) why → ⊥
 not_refused p v why valid packed h refused =
-    let none : payload_refusal p (text p v) ≡ None = not_refused_of p v [] (text p v) valid packed (is_payload p v valid packed h) in
+    let none : payload_refusal p (text p v) ≡ None = accepted p v [] (text p v) valid (is_payload p v valid packed h) in
     let both : None ≡ Some why = sym none ∙ refused.first in
     absurd cc
 
 -- the grammar has what is read
 in_grammar : (p : Profile) (octets : List ℕ) (v : Value) → IsValid p → p.octet_aligned ≡ false → IsRead p octets v → IsPayload p v [] octets
-in_grammar p octets v valid packed h = (read_exactly p v octets valid packed).0 h.value
+in_grammar p octets v valid packed h = (packed_exactly p v octets valid packed).0 h.value
 
 -- what is read of them is the value
 pub same_value : (p : Profile) (v w : Value) → IsValid p → p.octet_aligned ≡ false → IsValue p v → IsRead p (text p v) w → w ≡ v
@@ -53,11 +52,8 @@ same_value p v w valid packed h r =
     one_value p w v [] [] (text p v) valid (in_grammar p (text p v) w valid packed r) (is_payload p v valid packed h)
 
 -- without CRCs no frame is damaged
-none_of : (a b : Bool) → a ≡ false → (a && b) ≡ false
-none_of a b e = rw e refl
-
 pub undamaged : (view : PayloadView) (k : ℕ) → IsValid (format_of view) → (format_of view).octet_aligned ≡ false → is_damaged view k ≡ false
-undamaged view k valid packed = none_of view.profile.crc _ (plain_of view.profile valid packed).crc
+undamaged view k valid packed = fails_first view.profile.crc _ (plain_of view.profile valid packed).crc
 
 -- what is read is a value
 pub is_value : (p : Profile) (v : Value) (octets : List ℕ) → IsValid p → p.octet_aligned ≡ false → IsRead p octets v → IsValue p v

@@ -2,18 +2,17 @@
 use Rattle.std.proofs.Common.{◌≡◌, ℕ, ◌+◌, ◌*◌, ◌≤◌, Bool, false, cond, List, [], ◌∷◌, ◌++◌, length, map, take, replicate, sym, ap, ◌∙◌, arith}
 use Rattle.std.specs.List.{AllByRecursion}
 use Rattle.std.proofs.lemmas.List.{length-append, take_all, append-nil}
-use Rattle.amr_bits.specs.Bits.{nat, bits_at, filled, octets_for}
+use Rattle.amr_bits.specs.Bits.{bits_at, filled, octets_for}
 use Rattle.amr_bits.specs.Layout.{Mark, padded, settled}
 use Rattle.amr_bits.proofs.Filled.{bits-whole, filled-front, filled-lt, gap, gap_fills, length-filled}
-use Rattle.amr_bits.proofs.Numbers.{length-nat}
 use Rattle.amr_be.specs.Parts.{table_part, body_part}
 use Rattle.amr_frame.specs.declared.codec.Codec.{Codec}
 use Rattle.amr_frame.specs.declared.profile.Profile.{Profile}
 use Rattle.amr_frame.specs.Frames.{Frame, IsFrame}
 use Rattle.amr_toc.proofs.Settled.{settled_fixed, settled_padded}
 use Rattle.amr_toc.proofs.Sizes.{most_bits}
-use Rattle.payload_laws.proofs.Entries.{table_bits, table_fixed, length-table}
-use Rattle.payload_laws.proofs.Whole.{body, whole, marks_fixed}
+use Rattle.payload_laws.proofs.Entries.{table_bits, table_fixed}
+use Rattle.payload_laws.proofs.Whole.{body, whole, marks_fixed, length-whole}
 use Rattle.spec_payload.specs.Grammar.{text, layout, packed_layout, aligned_layout, check_of, checked}
 use Rattle.spec_payload.specs.Values.{Value}
 
@@ -44,14 +43,7 @@ text_is p v packed = ap filled (settled_layout p v (map (check_of p) (checked p 
 pub table_is : (frames : List Frame) → table_part frames ≡ table_bits frames
 table_is frames = ap (map settled) (table_fixed frames) ∙ settled_fixed (table_bits frames)
 
--- how many bits a value has
-pub length-whole : (v : Value) → length (whole v) ≡ 4 + 6 * length v.frames + length (body_part v.frames)
-length-whole v =
-    let t = table_bits v.frames in
-    let b = body v.frames in
-    omega (arith, length-append (nat 4 v.cmr) (t ++ b), length-append t b, length-nat 4 v.cmr, length-table v.frames)
-
--- and how many octets
+-- how many octets a value has
 pub length-text : (p : Profile) (v : Value) → p.octet_aligned ≡ false → length (text p v) ≡ octets_for (4 + 6 * length v.frames + length (body_part v.frames))
 length-text p v packed = ap length (text_is p v packed) ∙ length-filled (whole v) ∙ ap octets_for (length-whole v)
 

@@ -17,7 +17,8 @@ use Rattle.amr_toc.specs.Table.{table_of, table_refusal, fault_of, last_of}
 use Rattle.amr_toc.specs.Told.{IsAccepted, IsRefused}
 use Rattle.amr_toc.proofs.InPayload.{last_same, last_fault, table_same}
 use Rattle.amr_toc.proofs.Shown.{types_same}
-use Rattle.payload_laws.proofs.Formats.{plain, plain_of, plain_is, first_none}
+use Rattle.amr_frame.proofs.FirstLemmas.{first_none}
+use Rattle.payload_laws.proofs.Formats.{plain, plain_of, plain_is}
 use Rattle.spec_payload.specs.declared.refusal.PayloadRefusal.{PayloadRefusal}
 use Rattle.spec_payload.specs.declared.refusal.PayloadRefusal.TheVariants as why
 use Rattle.spec_payload.specs.Reading.{entries, types, entry_fault, last_entry, need}

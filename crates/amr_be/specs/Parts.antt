@@ -1,4 +1,4 @@
--- The parts of a bandwidth-efficient payload that is written, behind its codec mode request (RFC 4867, 4.3).
+-- The parts of a bandwidth-efficient payload that is written, behind its request (RFC 4867, 4.3).
 use Rattle.std.specs.Prelude.{ℕ, ◌<◌, ◌≤◌, Bool, List, length, map, flat_map, slice_index_or}
 use Rattle.amr_bits.specs.Layout.{settled}
 use Rattle.amr_frame.specs.declared.cell.Cell.{Cell}

@@ -61,7 +61,8 @@ fn put_table(cells: &[Cell], at: &mut BitWriter, out: &mut [u8])
     requires fits { at.old.written + 6 * length cells.now ≤ 8 * length out.old }
     requires counts { at.old.written + 6 * length cells.now < 2 ^ 64 }
     ensures written { at.new.written ≡ at.old.written + 6 * length cells.now }
-    ensures bits { front out.new at.new.written ≡ front out.old at.old.written ++ table_part (frames_of cells.now) }
+    ensures bits { front out.new at.new.written
+        ≡ front out.old at.old.written ++ table_part (frames_of cells.now) }
 {
     for k in 0..cells.len() {
         let cell = &cells[k];
@@ -79,8 +80,10 @@ fn put_bodies(cells: &[Cell], at: &mut BitWriter, out: &mut [u8])
     requires fits { at.old.written + length (body_part (frames_of cells.now)) ≤ 8 * length out.old }
     requires counts { at.old.written + length (body_part (frames_of cells.now)) < 2 ^ 64 }
     ensures written { at.new.written ≡ at.old.written + length (body_part (frames_of cells.now)) }
-    ensures bits { front out.new at.new.written ≡ front out.old at.old.written ++ body_part (frames_of cells.now) }
-    ensures filled { take (octets_for at.new.written) out.new ≡ filled (front out.new at.new.written) }
+    ensures bits { front out.new at.new.written
+        ≡ front out.old at.old.written ++ body_part (frames_of cells.now) }
+    ensures filled { take (octets_for at.new.written) out.new
+        ≡ filled (front out.new at.new.written) }
 {
     for cell in cells {
         at.put_bits(out, cell.bits.as_bits());

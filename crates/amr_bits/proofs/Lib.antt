@@ -6,3 +6,4 @@ pub mod Copied
 pub mod Equal
 pub mod Joined
 pub mod Words
+pub mod Lists

@@ -41,4 +41,5 @@ octets_for n = (n + 7) / 8
 
 -- the octets that have these bits, filled with zero bits up to a whole octet
 abbrev pub filled : List Bool → List ℕ
-filled bits = map (λ k. number (part (8 * k) 8 (bits ++ replicate 7 false))) (range_with_len 0 (octets_for (length bits)))
+filled bits = map (λ k. number (part (8 * k) 8 (bits ++ replicate 7 false)))
+    (range_with_len 0 (octets_for (length bits)))

@@ -1,4 +1,4 @@
--- The bits that a BitSlice and a FixedBits stand for, and what stands at the front of written octets.
+-- The bits that a BitSlice and a FixedBits stand for.
 use Rattle.std.specs.Prelude.{ℕ, Bool, List}
 use Rattle.amr_bits.specs.Bits.{bits_at}
 use Rattle.amr_bits.specs.declared.slice.BitSlice.{BitSlice}

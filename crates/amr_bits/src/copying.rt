@@ -58,7 +58,8 @@ pub fn few_from(octets: &[u8], start: usize, width: usize) -> u32
 pub fn copy_octets(octets: &[u8], start: usize, out: &mut [u8])
     requires start { start < 8 }
     requires fits { start + 8 * length out.old ≤ 8 * length octets.now }
-    ensures { out.new ≡ map (λ k. number_at octets.now (8 * k + start) 8) (range_with_len 0 (length out.old)) }
+    ensures { out.new ≡ map (λ k. number_at octets.now (8 * k + start) 8)
+        (range_with_len 0 (length out.old)) }
 {
     if start == 0 {
         out.copy_from_slice(&octets[..out.len()]);
@@ -72,7 +73,8 @@ fn copy_shifted(octets: &[u8], shift: u32, out: &mut [u8])
     requires above { 0 < shift }
     requires below { shift < 8 }
     requires fits { length out.old < length octets.now }
-    ensures { out.new ≡ map (λ k. number_at octets.now (8 * k + shift) 8) (range_with_len 0 (length out.old)) }
+    ensures { out.new ≡ map (λ k. number_at octets.now (8 * k + shift) 8)
+        (range_with_len 0 (length out.old)) }
 {
     if out.len() < WORD {
         copy_each(octets, shift, out);
@@ -88,7 +90,8 @@ fn copy_each(octets: &[u8], shift: u32, out: &mut [u8])
     requires above { 0 < shift }
     requires below { shift < 8 }
     requires fits { length out.old < length octets.now }
-    ensures { out.new ≡ map (λ k. number_at octets.now (8 * k + shift) 8) (range_with_len 0 (length out.old)) }
+    ensures { out.new ≡ map (λ k. number_at octets.now (8 * k + shift) 8)
+        (range_with_len 0 (length out.old)) }
 {
     for at in 0..out.len() {
         out[at] = across(octets[at], octets[at + 1], shift);
@@ -102,7 +105,8 @@ fn copy_words(octets: &[u8], shift: u32, out: &mut [u8])
     requires word { 8 ≤ length out.old }
     requires most { length out.old ≤ 16 }
     requires fits { length out.old < length octets.now }
-    ensures { out.new ≡ map (λ k. number_at octets.now (8 * k + shift) 8) (range_with_len 0 (length out.old)) }
+    ensures { out.new ≡ map (λ k. number_at octets.now (8 * k + shift) 8)
+        (range_with_len 0 (length out.old)) }
 {
     let last = out.len() - WORD;
     copy_word(octets, shift, out, 0);
@@ -115,7 +119,8 @@ fn copy_word(octets: &[u8], shift: u32, out: &mut [u8], at: usize)
     requires below { shift < 8 }
     requires word { at + 8 ≤ length out.old }
     requires fits { length out.old < length octets.now }
-    ensures copied { (k : ℕ) → at ≤ k → k < at + 8 → slice_index out.new k ≡ number_at octets.now (8 * k + shift) 8 }
+    ensures copied { (k : ℕ) → at ≤ k → k < at + 8
+        → slice_index out.new k ≡ number_at octets.now (8 * k + shift) 8 }
     ensures before { (k : ℕ) → k < at → slice_index out.new k ≡ slice_index out.old k }
 {
     out[at..at + WORD].copy_from_slice(&word_at(octets, shift, at));
@@ -129,7 +134,8 @@ fn word_at(octets: &[u8], shift: u32, at: usize) -> [u8; WORD]
     requires above { 0 < shift }
     requires below { shift < 8 }
     requires fits { at + 8 ≤ length octets.now }
-    ensures { (k : ℕ) → k < 7 → slice_index result k ≡ number_at octets.now (8 * (at + k) + shift) 8 }
+    ensures { (k : ℕ) → k < 7
+        → slice_index result k ≡ number_at octets.now (8 * (at + k) + shift) 8 }
 {
     let front = u64::from_be_bytes([
         octets[at],
@@ -150,7 +156,8 @@ fn copy_blocks(octets: &[u8], shift: u32, out: &mut [u8])
     requires below { shift < 8 }
     requires block { 16 ≤ length out.old }
     requires fits { length out.old < length octets.now }
-    ensures { out.new ≡ map (λ k. number_at octets.now (8 * k + shift) 8) (range_with_len 0 (length out.old)) }
+    ensures { out.new ≡ map (λ k. number_at octets.now (8 * k + shift) 8)
+        (range_with_len 0 (length out.old)) }
 {
     let last = out.len() - BLOCK;
     let mut at = 0;
@@ -167,7 +174,8 @@ fn copy_block(octets: &[u8], shift: u32, out: &mut [u8], at: usize)
     requires below { shift < 8 }
     requires block { at + 16 ≤ length out.old }
     requires fits { length out.old < length octets.now }
-    ensures copied { (k : ℕ) → at ≤ k → k < at + 16 → slice_index out.new k ≡ number_at octets.now (8 * k + shift) 8 }
+    ensures copied { (k : ℕ) → at ≤ k → k < at + 16
+        → slice_index out.new k ≡ number_at octets.now (8 * k + shift) 8 }
     ensures before { (k : ℕ) → k < at → slice_index out.new k ≡ slice_index out.old k }
 {
     out[at..at + BLOCK].copy_from_slice(&block_at(octets, shift, at));
@@ -179,7 +187,8 @@ fn block_at(octets: &[u8], shift: u32, at: usize) -> [u8; BLOCK]
     requires above { 0 < shift }
     requires below { shift < 8 }
     requires fits { at + 16 < length octets.now }
-    ensures { (k : ℕ) → k < 16 → slice_index result k ≡ number_at octets.now (8 * (at + k) + shift) 8 }
+    ensures { (k : ℕ) → k < 16
+        → slice_index result k ≡ number_at octets.now (8 * (at + k) + shift) 8 }
 {
     let mut made = [0; BLOCK];
     for step in 0..BLOCK {

@@ -19,7 +19,8 @@ impl<'a> BitSlice<'a> {
     /// The `len` bits of the octets from bit `start` on; `None` where they are not all there.
     pub fn of(octets: &'a [u8], start: usize, len: usize) -> Option<BitSlice<'a>>
         ensures none { IsNone result ↔ (8 * length octets.now < start + len) }
-        ensures fields { IfSome result (λ s. (s.octets.now ≡ octets.now) × (s.start ≡ start) × (s.len ≡ len)) }
+        ensures fields { IfSome result
+            (λ s. (s.octets.now ≡ octets.now) × (s.start ≡ start) × (s.len ≡ len)) }
         ensures bits { IfSome result (λ s. run s ≡ part start len (bits_of octets.now)) }
     {
         // The number of bits of a slice can pass usize.
@@ -56,7 +57,8 @@ impl<'a> BitSlice<'a> {
         ensures bits { run result ≡ part from len (run self.now) }
         ensures len { result.len ≡ len }
         ensures start { result.start ≡ self.now.start % 8 + from % 8 }
-        ensures lent { result.octets.now ≡ drop (self.now.start / 8 + from / 8) self.now.octets.now }
+        ensures lent { result.octets.now
+            ≡ drop (self.now.start / 8 + from / 8) self.now.octets.now }
     {
         BitSlice {
             octets: &self.octets[self.start / 8 + from / 8..],

@@ -35,9 +35,12 @@ impl BitWriter {
         requires fits { self.old.written + width ≤ 8 * length out.old }
         requires counts { self.old.written + width < 2 ^ 64 }
         ensures written { self.new.written ≡ self.old.written + width }
-        ensures bits { front out.new self.new.written ≡ front out.old self.old.written ++ nat width value }
-        ensures filled { take (octets_for self.new.written) out.new ≡ filled (front out.new self.new.written) }
-        ensures later { drop (octets_for self.new.written) out.new ≡ drop (octets_for self.new.written) out.old }
+        ensures bits { front out.new self.new.written
+            ≡ front out.old self.old.written ++ nat width value }
+        ensures filled { take (octets_for self.new.written) out.new
+            ≡ filled (front out.new self.new.written) }
+        ensures later { drop (octets_for self.new.written) out.new
+            ≡ drop (octets_for self.new.written) out.old }
     {
         let octets = value.to_be_bytes();
         let bits = BitSlice {
@@ -53,9 +56,12 @@ impl BitWriter {
         requires fits { self.old.written + bits.len ≤ 8 * length out.old }
         requires counts { self.old.written + bits.len < 2 ^ 64 }
         ensures written { self.new.written ≡ self.old.written + bits.entry.len }
-        ensures bits { front out.new self.new.written ≡ front out.old self.old.written ++ run bits.entry }
-        ensures filled { take (octets_for self.new.written) out.new ≡ filled (front out.new self.new.written) }
-        ensures later { drop (octets_for self.new.written) out.new ≡ drop (octets_for self.new.written) out.old }
+        ensures bits { front out.new self.new.written
+            ≡ front out.old self.old.written ++ run bits.entry }
+        ensures filled { take (octets_for self.new.written) out.new
+            ≡ filled (front out.new self.new.written) }
+        ensures later { drop (octets_for self.new.written) out.new
+            ≡ drop (octets_for self.new.written) out.old }
     {
         write_at(out, self.written, bits);
         self.written += bits.len;
@@ -68,8 +74,10 @@ impl BitWriter {
         ensures written { self.new.written ≡ 8 * octets_for self.old.written }
         ensures bits { front out.new self.new.written ≡ front out.old self.old.written
             ++ replicate (self.new.written - self.old.written) false }
-        ensures filled { take (octets_for self.new.written) out.new ≡ filled (front out.new self.new.written) }
-        ensures later { drop (octets_for self.new.written) out.new ≡ drop (octets_for self.new.written) out.old }
+        ensures filled { take (octets_for self.new.written) out.new
+            ≡ filled (front out.new self.new.written) }
+        ensures later { drop (octets_for self.new.written) out.new
+            ≡ drop (octets_for self.new.written) out.old }
     {
         let none = BitSlice {
             octets: &[],
@@ -109,7 +117,8 @@ fn write_at(out: &mut [u8], written: usize, bits: BitSlice<'_>)
 fn write_octets(out: &mut [u8], at: usize, bits: BitSlice<'_>)
     requires at { at ≤ length out.old }
     requires fits { 8 * at + bits.len ≤ 8 * length out.old }
-    ensures { out.new ≡ take at out.old ++ filled (run bits.entry) ++ drop (at + octets_for bits.entry.len) out.old }
+    ensures { out.new ≡ take at out.old ++ filled (run bits.entry)
+        ++ drop (at + octets_for bits.entry.len) out.old }
 {
     bits.copy_to(&mut out[at..at + octets_needed(bits.len)]);
 }

@@ -13,7 +13,7 @@ frame_of cell = record { ft = cell.ft; q = cell.q; bits = kept cell.bits }
 abbrev pub held : Cell → Option Frame
 held cell = cond cell.present (Some (frame_of cell)) None
 
--- a present cell holds a frame of the codec; the one absent cell has the type, Q and bits of NO_DATA
+-- a present cell holds a frame of the codec; the absent one has the type, Q and bits of NO_DATA
 abbrev pub IsCellBy : Codec → Bool → Frame → Type 0
 IsCellBy codec true frame = IsFrame codec frame
 IsCellBy codec false frame = frame ≡ no_data

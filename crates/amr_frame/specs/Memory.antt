@@ -3,7 +3,7 @@ use Rattle.std.specs.Prelude.{ℕ, Bool, List}
 use Rattle.amr_frame.specs.declared.cell.Cell.{Cell}
 use Rattle.amr_frame.specs.declared.codec.Codec.{Codec}
 
--- the codec and channels of the blocks, how many blocks there is room for, the cells of those got, the faults, and whether it is ready
+-- what its blocks are of, for how many it has room, the cells got, its faults, and whether it is ready
 pub record Shelf : Type 0 where
   pub codec : Codec
   pub channels : ℕ

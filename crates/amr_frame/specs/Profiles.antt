@@ -15,7 +15,8 @@ is_empty_group (Some blocks) = nat_eq blocks 0
 abbrev pub profile_fault : Profile → Option ProfileFault
 profile_fault p = first (
     when (nat_eq p.channels 0 || nat_lt 6 p.channels) fault.Channels
-    ∷ when ((p.crc || p.sorting || is_some p.interleaving) && not p.octet_aligned) fault.NeedsAlignment
+    ∷ when ((p.crc || p.sorting || is_some p.interleaving) && not p.octet_aligned)
+    fault.NeedsAlignment
     ∷ when (is_empty_group p.interleaving) fault.Interleaving
     ∷ when (nat_eq p.max_blocks 0 || nat_lt 64 p.max_blocks) fault.MaxBlocks ∷ [])
 

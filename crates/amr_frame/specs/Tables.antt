@@ -1,5 +1,5 @@
--- The frame types of both codecs and their numbers of bits: 3GPP TS 26.101 and TS 26.201, RFC 4867, 4.3.2.
--- How many of a frame's first bits a frame CRC covers is this project's own.
+-- The frame types of both codecs and their numbers of bits (3GPP TS 26.101 and TS 26.201; RFC 4867,
+-- 4.3.2). How many of a frame's first bits a frame CRC covers is this project's own.
 use Rattle.std.specs.Prelude.{ℕ, Bool, true, false, List, [], ◌∷◌, ◌++◌, replicate, slice_index_or}
 use Rattle.amr_frame.specs.declared.codec.Codec.{Codec}
 use Rattle.amr_frame.specs.declared.codec.Codec.TheVariants.{Amr, AmrWb}

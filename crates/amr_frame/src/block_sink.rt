@@ -42,7 +42,8 @@ pub trait BlockSink {
         ensures whole { OnOk result (whole self.old (frames_of cells.now) self.new) }
         ensures part { OnErr result (part self.old (frames_of cells.now) self.new) }
         ensures ready { ready self.new ≡ is_ok result }
-        ensures kept { OnOk result ((codec self.new ≡ codec self.old) × (channels self.new ≡ channels self.old)) }
+        ensures kept { OnOk result
+            ((codec self.new ≡ codec self.old) × (channels self.new ≡ channels self.old)) }
 
         ensures cause { HasCause (faults self.old) (faults self.new) result }
         ensures same { same self.old self.new };

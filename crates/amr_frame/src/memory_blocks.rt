@@ -54,7 +54,14 @@ impl MemoryBlocks {
         requires some { 1 ≤ channels }
         requires most { channels ≤ 6 }
 
-        ensures fresh { IfOk result (λ s. s ≡ record { codec = codec; channels = channels; room = room; cells = []; faults = 0; ready = true }) }
+        ensures fresh { IfOk result (λ s. s ≡ record {
+          codec = codec;
+          channels = channels;
+          room = room;
+          cells = [];
+          faults = 0;
+          ready = true;
+        }) }
     {
         let Some(most) = room.checked_mul(usize::from(channels)) else {
             return Err(AllocError);
@@ -74,7 +81,8 @@ impl MemoryBlocks {
     /// The cells of the blocks got, one block after the other.
     pub fn blocks(&self) -> &[Cell]
         ensures cells { result.now ≡ self.now.cells }
-        ensures whole { (count : ℕ) × (count ≤ self.now.room) × (length result.now ≡ count * self.now.channels) }
+        ensures whole { (count : ℕ) × (count ≤ self.now.room)
+            × (length result.now ≡ count * self.now.channels) }
     {
         self.cells.as_slice()
     }
@@ -100,14 +108,20 @@ impl BlockSink for MemoryBlocks {
         requires ready { IsTrue self.old.ready }
         requires block { IsPresentBlock self.old.codec self.old.channels cells.now }
 
-        ensures whole { OnOk result (map held self.new.cells ≡ map held self.old.cells ++ map Some (frames_of cells.now)) }
+        ensures whole { OnOk result
+            (map held self.new.cells ≡ map held self.old.cells ++ map Some (frames_of cells.now)) }
         ensures part { OnErr result (self.new.cells ≡ self.old.cells) }
         ensures ready { self.new.ready ≡ is_ok result }
         ensures cause { HasCause self.old.faults self.new.faults result }
 
         ensures fails { IsErr result ↔ (self.old.room * self.old.channels ≤ length self.old.cells) }
-        ensures appended { OnOk result (self.new ≡ record self.old { cells = self.old.cells ++ cells.now }) }
-        ensures counted { OnErr result (self.new ≡ record self.old { faults = min (self.old.faults + 1) (2 ^ 64 - 1); ready = false }) }
+        ensures appended { OnOk result
+            (self.new ≡ record self.old { cells = self.old.cells ++ cells.now }) }
+        ensures counted { OnErr result
+            (self.new ≡ record self.old {
+              faults = min (self.old.faults + 1) (2 ^ 64 - 1);
+              ready = false;
+            }) }
     {
         if self.count == self.room {
             self.faults = self.faults.saturating_add(1);

@@ -1,7 +1,6 @@
 -- Octets and frames that are counted: those before a place of the robust order.
-use Rattle.std.proofs.Common.{◌≡◌, ℕ, zero, suc, ◌+◌, ◌<◌, ◌≤◌, cond, ltb, eqb, List, [], ◌∷◌, ◌++◌, length, take, set, get_or, sum, min, max, sym, refl, ap, ◌∙◌, subst, arith, inl, inr}
-use Rattle.std.specs.List.{All, range_with_len, sum_by, count_by, filter, fold}
-use Rattle.std.proofs.Math.Nat.{le-max_left, le-max_right}
+use Rattle.std.proofs.Common.{◌≡◌, ℕ, zero, suc, ◌+◌, ◌<◌, ◌≤◌, cond, ltb, eqb, List, [], ◌∷◌, ◌++◌, length, take, set, get_or, sum, min, sym, refl, ap, ◌∙◌, subst, arith, inl, inr}
+use Rattle.std.specs.List.{All, range_with_len, sum_by, count_by, filter}
 use Rattle.std.proofs.lemmas.Bool.{lt-ltb, le-ltb, cases_lt, cases_eq}
 use Rattle.std.proofs.lemmas.Bool.Decides.{nat_tests}
 use Rattle.std.proofs.lemmas.List.{length-append, get_or_append_left, get_or_push, get_or-set_same, get_or-set_other, take_all, append-nil}
@@ -137,16 +136,6 @@ having-find ls o (suc n) j h l =
         | inr q ↦ absurd (omega (arith, t, l, before-lacks ls o n (omega arith) q))
       ]
     ]
-
--- the greatest of several numbers and a first one is at least the first, and at least each other
-max_grows : (xs : List ℕ) (a : ℕ) → a ≤ fold max a xs
-max_grows [] a = omega arith
-max_grows (x ∷ xs) a = let l = le-max_left a x in let r = max_grows xs (max a x) in omega arith
-
-pub below_max : (xs : List ℕ) (a k : ℕ) → k < length xs → get_or xs k 0 ≤ fold max a xs
-below_max [] a k h = absurd (omega arith)
-below_max (x ∷ xs) a zero h = let l = le-max_right a x in let r = max_grows xs (max a x) in omega arith
-below_max (x ∷ xs) a (suc k) h = below_max xs (max a x) k (omega arith)
 
 -- the octets below the greatest length are all
 pub below-all : (ls : List ℕ) (m n : ℕ) → n ≤ length ls → ((k : ℕ) → k < length ls → get_or ls k 0 ≤ m) → below ls m n ≡ sum (take n ls)

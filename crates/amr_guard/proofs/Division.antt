@@ -1,21 +1,9 @@
 -- The CRC of bits with more behind them.
-use Rattle.std.proofs.Common.{◌≡◌, ℕ, zero, suc, ◌+◌, ◌-◌, ◌≤◌, Bool, true, false, cond, List, [], ◌∷◌, ◌++◌, length, take, drop, replicate, sym, refl, ap, ◌∙◌, arith}
+use Rattle.std.proofs.Common.{◌≡◌, ℕ, zero, suc, ◌+◌, ◌-◌, ◌≤◌, Bool, true, false, List, [], ◌∷◌, ◌++◌, length, take, drop, replicate, sym, refl, ap, ◌∙◌, arith}
 use Rattle.std.proofs.lemmas.List.{length-append, append_assoc, replicate-append-replicate, length-replicate, take-append-drop, length-take-le, length-drop}
 use Rattle.spec_payload.specs.FrameCrc.{plus, generator, remainder, crc_of}
-use Rattle.amr_guard.proofs.Sums.{length-plus, plus_swap, plus-nil, plus-zeros, zero-plus, plus_behind, plus_before, plus-append}
-
--- what a step of long division adds
-abbrev added : Bool → List Bool
-added b = cond b (drop 1 generator) []
-
--- a remainder has eight bits
-length-remainder : (n : ℕ) (w : List Bool) → length w ≡ n + 8 → length (remainder n w) ≡ 8
-length-remainder zero w l = omega arith
-length-remainder (suc n) [] l = absurd (omega arith)
-length-remainder (suc n) (b ∷ w) l = length-remainder n (plus w (added b)) (omega (arith, length-plus w (added b)))
-
-pub length-crc : (a : List Bool) → length (crc_of a) ≡ 8
-length-crc a = length-remainder (length a) (a ++ replicate 8 false) (length-append a (replicate 8 false))
+use Rattle.spec_payload.proofs.Sums.{length-plus, plus_swap, plus-nil, plus-zeros, zero-plus, plus_behind, added, length-crc}
+use Rattle.amr_guard.proofs.Sums.{plus_before, plus-append}
 
 -- nothing is left of nothing
 remainder-nil : (n : ℕ) → remainder n [] ≡ []

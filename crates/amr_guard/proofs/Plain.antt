@@ -1,13 +1,9 @@
 -- Each octet of each frame has one place in plain order, and each place has one octet.
-use Rattle.std.proofs.Common.{◌≡◌, ℕ, zero, suc, ◌+◌, ◌-◌, ◌<◌, ◌≤◌, List, length, take, get_or, sum, ap, ◌∙◌, arith, inl, inr}
+use Rattle.std.proofs.Common.{◌≡◌, ℕ, zero, suc, ◌+◌, ◌-◌, ◌<◌, ◌≤◌, List, length, take, get_or, sum, ap, arith, inl, inr}
 use Rattle.std.proofs.lemmas.Bool.{cases_lt, cases_eq, cases_order}
 use Rattle.std.proofs.lemmas.List.{take_all}
-use Rattle.std.proofs.lemmas.List.Sums.{sum_by_more}
+use Rattle.amr_bits.proofs.Lists.{sum-more}
 use Rattle.amr_guard.specs.Sorting.{IsOctet, plain_place}
-
--- a frame more
-pub sum-more : (ls : List ℕ) (n : ℕ) → n < length ls → sum (take (suc n) ls) ≡ sum (take n ls) + get_or ls n 0
-sum-more ls n h = let e : suc n ≡ n + 1 = omega arith in ap (λ k. sum (take k ls)) e ∙ sum_by_more (λ x. x) ls n 0 h
 
 -- an octet of an earlier frame stands before the frame
 plain-under : (ls : List ℕ) (f o g : ℕ) → IsOctet ls f o → f < g → g ≤ length ls → plain_place ls f o < sum (take g ls)

@@ -7,8 +7,9 @@ use Rattle.std.proofs.Math.Nat.{zero-mul}
 use Rattle.amr_bits.specs.Bits.{nat, number}
 use Rattle.amr_bits.proofs.Numbers.{nat-number, number-append, number-zeros, number-lt}
 use Rattle.spec_payload.specs.FrameCrc.{plus, crc_of}
-use Rattle.amr_guard.proofs.Sums.{length-plus, number-plus}
-use Rattle.amr_guard.proofs.Division.{length-crc, crc-zeros, crc-append}
+use Rattle.spec_payload.proofs.Sums.{length-plus, length-crc}
+use Rattle.amr_guard.proofs.Sums.{number-plus}
+use Rattle.amr_guard.proofs.Division.{crc-zeros, crc-append}
 
 -- the number of the CRC of an octet's bits
 abbrev pub of_octet : ℕ → ℕ

@@ -9,7 +9,8 @@ use Rattle.std.proofs.lemmas.List.Sums.{prefix_len_is}
 use Rattle.spec_payload.specs.RobustOrder.{Place, place, robust_order}
 use Rattle.spec_payload.specs.Reading.{is_place}
 use Rattle.amr_guard.specs.Sorting.{IsOctet, robust_place}
-use Rattle.amr_guard.proofs.Counts.{below, before, rank, having, below-next, below-zero, range-next, length-having, having-at, having-find, below_max, below-all}
+use Rattle.amr_guard.proofs.Counts.{below, before, rank, having, below-next, below-zero, range-next, length-having, having-at, having-find, below-all}
+use Rattle.amr_bits.proofs.Lists.{below_max}
 
 -- the places of octet o, and of the first m octets
 abbrev row : List ℕ → ℕ → List Place

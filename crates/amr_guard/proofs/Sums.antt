@@ -1,62 +1,11 @@
--- Sums of polynomials.
-use Rattle.std.proofs.Common.{◌≡◌, ℕ, zero, suc, ◌+◌, ◌*◌, ◌^◌, ◌<◌, ◌≤◌, Bool, true, false, List, [], ◌∷◌, ◌++◌, length, replicate, sym, refl, ap, ◌∙◌, arith}
+-- Sums of polynomials in pieces, and their numbers.
+use Rattle.std.proofs.Common.{◌≡◌, ℕ, ◌+◌, ◌*◌, ◌^◌, ◌<◌, ◌≤◌, Bool, true, false, List, [], ◌∷◌, ◌++◌, length, sym, refl, ap, ◌∙◌, arith}
 use Rattle.std.specs.Prelude.{bit_xor}
 use Rattle.std.proofs.lemmas.Nat.{xor_block}
 use Rattle.amr_bits.specs.Bits.{number}
 use Rattle.amr_bits.proofs.Numbers.{bit, number-cons, number-lt}
 use Rattle.spec_payload.specs.FrameCrc.{differ, plus}
-
--- a sum is as long as its first part
-pub length-plus : (a b : List Bool) → length (plus a b) ≡ length a
-length-plus [] b = refl
-length-plus (x ∷ a) [] = refl
-length-plus (x ∷ a) (y ∷ b) = ap suc (length-plus a b)
-
--- a bit plus 0
-differ_none : (a : Bool) → differ a false ≡ a
-differ_none false = refl
-differ_none true = refl
-
--- two bits may be added in either order
-differ_swap : (a b c : Bool) → differ (differ a b) c ≡ differ (differ a c) b
-differ_swap false false c = sym (differ_none c)
-differ_swap false true false = refl
-differ_swap false true true = refl
-differ_swap true false false = refl
-differ_swap true false true = refl
-differ_swap true true false = refl
-differ_swap true true true = refl
-
--- two polynomials may be added in either order
-pub plus_swap : (a b c : List Bool) → plus (plus a b) c ≡ plus (plus a c) b
-plus_swap [] b c = refl
-plus_swap (x ∷ a) [] [] = refl
-plus_swap (x ∷ a) [] (z ∷ c) = refl
-plus_swap (x ∷ a) (y ∷ b) [] = refl
-plus_swap (x ∷ a) (y ∷ b) (z ∷ c) = λ i. differ_swap x y z i ∷ plus_swap a b c i
-
--- a polynomial plus nothing
-pub plus-nil : (a : List Bool) → plus a [] ≡ a
-plus-nil [] = refl
-plus-nil (x ∷ a) = refl
-
--- a polynomial plus zeros
-pub plus-zeros : (a : List Bool) (n : ℕ) → plus a (replicate n false) ≡ a
-plus-zeros [] n = refl
-plus-zeros (x ∷ a) zero = refl
-plus-zeros (x ∷ a) (suc n) = λ i. differ_none x i ∷ plus-zeros a n i
-
--- zeros plus a polynomial of that length
-pub zero-plus : (w : List Bool) (n : ℕ) → length w ≡ n → plus (replicate n false) w ≡ w
-zero-plus [] zero l = refl
-zero-plus [] (suc n) l = absurd (omega arith)
-zero-plus (x ∷ w) zero l = absurd (omega arith)
-zero-plus (x ∷ w) (suc n) l = ap {B = List Bool} (λ t. x ∷ t) (zero-plus w n (omega arith))
-
--- a sum behind zeros leaves what stands in front
-pub plus_behind : (a x y : List Bool) → plus (a ++ x) (replicate (length a) false ++ y) ≡ a ++ plus x y
-plus_behind [] x y = refl
-plus_behind (b ∷ a) x y = λ i. differ_none b i ∷ plus_behind a x y i
+use Rattle.spec_payload.proofs.Sums.{length-plus, plus-nil}
 
 -- a sum with a short polynomial leaves what stands behind
 pub plus_before : (a x g : List Bool) → length g ≤ length a → plus (a ++ x) g ≡ plus a g ++ x

@@ -19,9 +19,11 @@ robust_place lengths frame octet = position_or_len (is_place octet frame) (robus
 -- the octets `plain`, frame by frame, brought into the robust order
 abbrev pub sorted_of : List ℕ → List ℕ → List ℕ
 sorted_of lengths plain =
-    map (λ (p : Place). slice_index plain (plain_place lengths p.frame p.octet)) (robust_order lengths)
+    map (λ (p : Place). slice_index plain (plain_place lengths p.frame p.octet))
+    (robust_order lengths)
 
 -- each octet of `plain` stands in `sorted` at its place of the robust order
 abbrev pub Agree : List ℕ → List ℕ → List ℕ → Type 0
 Agree lengths plain sorted = (frame octet : ℕ) → IsOctet lengths frame octet
-    → slice_index sorted (robust_place lengths frame octet) ≡ slice_index plain (plain_place lengths frame octet)
+    → slice_index sorted (robust_place lengths frame octet)
+    ≡ slice_index plain (plain_place lengths frame octet)

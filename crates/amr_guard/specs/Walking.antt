@@ -3,8 +3,8 @@ use Rattle.std.specs.Prelude.{◌≡◌, ℕ, ◌+◌, ◌<◌, min, nat_lt, Lis
 use Rattle.std.specs.List.{sum_by, count_by}
 use Rattle.amr_guard.specs.Sorting.{IsOctet, plain_place, robust_place}
 
--- where octet `octet` of frame `frame` goes in the robust order: behind all octets with a lower number
--- and behind the octets with this number of the frames before
+-- where octet `octet` of frame `frame` goes in the robust order: behind all octets with a lower
+-- number and behind the octets with this number of the frames before
 abbrev pub next_place : List ℕ → ℕ → ℕ → ℕ
 next_place lengths frame octet =
     sum_by (λ l. min l octet) lengths + count_by (λ l. nat_lt octet l) (take frame lengths)
@@ -12,10 +12,12 @@ next_place lengths frame octet =
 -- the places to which the octets of frame `frame` go, by their numbers
 abbrev pub AreNext : List ℕ → ℕ → List ℕ → Type 0
 AreNext lengths frame places =
-    (length places ≡ 60) × ((octet : ℕ) → octet < 60 → slice_index places octet ≡ next_place lengths frame octet)
+    (length places ≡ 60)
+    × ((octet : ℕ) → octet < 60 → slice_index places octet ≡ next_place lengths frame octet)
 
 -- the first `done` octets of `plain` stand in `sorted` at their places of the robust order
 abbrev pub AgreeUpTo : List ℕ → List ℕ → List ℕ → ℕ → Type 0
 AgreeUpTo lengths plain sorted done = (frame octet : ℕ) → IsOctet lengths frame octet
     → plain_place lengths frame octet < done
-    → slice_index sorted (robust_place lengths frame octet) ≡ slice_index plain (plain_place lengths frame octet)
+    → slice_index sorted (robust_place lengths frame octet)
+    ≡ slice_index plain (plain_place lengths frame octet)

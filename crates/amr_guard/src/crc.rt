@@ -18,7 +18,8 @@ pub fn crc8(bits: BitSlice<'_>) -> u8
 
 /// The CRC of all bits of the run but the last `len % 8`.
 fn crc_of_whole(bits: BitSlice<'_>) -> u8
-    ensures { result ≡ number_of (crc_of (bits_at bits.entry.octets.now bits.entry.start (8 * (bits.entry.len / 8)))) }
+    ensures { result ≡ number_of
+        (crc_of (bits_at bits.entry.octets.now bits.entry.start (8 * (bits.entry.len / 8)))) }
 {
     let whole = bits.len / 8;
     if bits.start % 8 == 0 {
@@ -44,7 +45,8 @@ fn crc_of_octets(octets: &[u8]) -> u8
 /// The CRC of the first `8 * count` bits of a run that may begin inside an octet.
 fn crc_across(bits: BitSlice<'_>, count: usize) -> u8
     requires { 8 * count ≤ bits.len }
-    ensures { result ≡ number_of (crc_of (bits_at bits.entry.octets.now bits.entry.start (8 * count))) }
+    ensures { result ≡ number_of
+        (crc_of (bits_at bits.entry.octets.now bits.entry.start (8 * count))) }
 {
     let mut crc = 0;
     for at in 0..count {
@@ -55,7 +57,8 @@ fn crc_across(bits: BitSlice<'_>, count: usize) -> u8
 
 /// The CRC of bits with eight more behind them, from that of the bits.
 fn after_octet(register: u8, octet: u8) -> u8
-    ensures { (a c : List Bool) → number_of (crc_of a) ≡ register → length c ≡ 8 → number_of c ≡ octet
+    ensures { (a c : List Bool) → number_of (crc_of a) ≡ register → length c ≡ 8
+        → number_of c ≡ octet
         → result ≡ number_of (crc_of (a ++ c)) }
 {
     crc_of_octet(register ^ octet)
@@ -65,7 +68,8 @@ fn after_octet(register: u8, octet: u8) -> u8
 fn after_bits(register: u8, more: u32, count: u32) -> u8
     requires few { count ≤ 7 }
     requires below { more < 2 ^ count }
-    ensures { (a c : List Bool) → number_of (crc_of a) ≡ register → length c ≡ count → number_of c ≡ more
+    ensures { (a c : List Bool) → number_of (crc_of a) ≡ register → length c ≡ count
+        → number_of c ≡ more
         → result ≡ number_of (crc_of (a ++ c)) }
 {
     crc_of_octet((register as u32 >> (8 - count) ^ more) as u8) ^ register << count

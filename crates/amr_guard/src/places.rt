@@ -11,7 +11,8 @@ pub fn sorted_place(lengths: &[u8], frame: usize, octet: usize) -> usize
     requires short { All (λ l. l ≤ 60) lengths.now }
     requires exists { IsOctet lengths.now frame octet }
     ensures place { result ≡ robust_place lengths.now frame octet }
-    ensures stands { (d : Place) → slice_index_or (robust_order lengths.now) result d ≡ pair octet frame }
+    ensures stands { (d : Place)
+        → slice_index_or (robust_order lengths.now) result d ≡ pair octet frame }
     ensures within { result < sum lengths.now }
 {
     octets_below(lengths, octet) + frames_having(&lengths[..frame], octet)

@@ -88,7 +88,8 @@ fn take_frame(
     requires places { AreNext lengths.now frame places.old }
     requires done { AgreeUpTo lengths.now out.old sorted.now start }
     ensures places { AreNext lengths.now (frame + 1) places.new }
-    ensures done { AgreeUpTo lengths.now out.new sorted.now (start + slice_index lengths.now frame) }
+    ensures done { AgreeUpTo lengths.now out.new sorted.now
+        (start + slice_index lengths.now frame) }
 {
     for octet in 0..lengths[frame] as usize {
         let place = places[octet];

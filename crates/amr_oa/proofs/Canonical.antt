@@ -17,14 +17,15 @@ use Rattle.amr_frame.specs.Frames.{Frame, IsFrame, no_data}
 use Rattle.amr_frame.specs.Profiles.{group_bound}
 use Rattle.amr_guard.proofs.Rows.{length-robust}
 use Rattle.amr_oa.specs.Written.{interleaving_part, header_part, entry_octet, table_part, checks_part, frame_part, plain_part, row_part, longest_of, sorted_part, body_part, written_as}
+use Rattle.amr_toc.proofs.EntryBits.{wide}
 use Rattle.amr_toc.proofs.Settled.{settled_fixed, settled_padded, bits_of_filled}
-use Rattle.payload_laws.proofs.Entries.{length-bits_of}
+use Rattle.payload_laws.proofs.Marks.{length-bits_of}
 use Rattle.spec_payload.specs.Grammar.{text, layout, aligned_layout, packed_layout, interleaving_octet, table, entry, octet_at, check_of, checked}
 use Rattle.spec_payload.specs.RobustOrder.{Place, place, order}
 use Rattle.spec_payload.specs.Values.{Value, IsValue, FitsGroup, has_bits, octet_counts}
 
 -- two halves of an octet
-pub halves : (a b v : ℕ) → b < 16 → v ≡ 16 * a + b → nat 8 v ≡ nat 4 a ++ nat 4 b
+halves : (a b v : ℕ) → b < 16 → v ≡ 16 * a + b → nat 8 v ≡ nat 4 a ++ nat 4 b
 halves a b v h e =
     let one : v / 128 % 2 ≡ a / 8 % 2 = omega arith in
     let two : v / 64 % 2 ≡ a / 4 % 2 = omega arith in
@@ -44,34 +45,9 @@ grouped (Some most) blocks v h =
     let low = h.2 in
     sym (halves (v.stride - 1) v.index (16 * (v.stride - 1) + v.index) (omega arith) refl)
 
--- an entry, by the bits F and Q
-abbrev pub digit : Bool → ℕ
-digit b = cond b 1 0
-
-small : (b : Bool) → digit b ≤ 1
-small true = omega arith
-small false = omega arith
-
-is_bit : (b : Bool) → nat_eq (digit b) 1 ≡ b
-is_bit true = refl
-is_bit false = refl
-
-pub entry_bits : (more q : Bool) (ft v : ℕ) → ft ≤ 15 → v ≡ 128 * digit more + 8 * ft + 4 * digit q → nat 8 v ≡ more ∷ nat 4 ft ++ q ∷ false ∷ false ∷ []
-entry_bits more q ft v h e =
-    let a = small more in
-    let b = small q in
-    let first : nat_eq (v / 128 % 2) 1 ≡ more = ap (λ (x : ℕ). nat_eq x 1) (omega arith) ∙ is_bit more in
-    let last : nat_eq (v / 4 % 2) 1 ≡ q = ap (λ (x : ℕ). nat_eq x 1) (omega arith) ∙ is_bit q in
-    let one : v / 64 % 2 ≡ ft / 8 % 2 = omega arith in
-    let two : v / 32 % 2 ≡ ft / 4 % 2 = omega arith in
-    let three : v / 16 % 2 ≡ ft / 2 % 2 = omega arith in
-    let four : v / 8 % 2 ≡ ft / 1 % 2 = omega arith in
-    let five : v / 2 % 2 ≡ 0 = omega arith in
-    let six : v / 1 % 2 ≡ 0 = omega arith in
-    λ i. first i ∷ nat_eq (one i) 1 ∷ nat_eq (two i) 1 ∷ nat_eq (three i) 1 ∷ nat_eq (four i) 1 ∷ last i ∷ nat_eq (five i) 1 ∷ nat_eq (six i) 1 ∷ []
-
+-- an entry
 entry_is : (more : Bool) (f : Frame) → f.ft ≤ 15 → map settled (entry 2 f more) ≡ nat 8 (entry_octet more f)
-entry_is more f h = sym (entry_bits more f.q f.ft (entry_octet more f) h refl)
+entry_is more f h = sym (wide more f.q f.ft (entry_octet more f) h refl)
 
 -- the table
 table_is : (codec : Codec) (frames : List Frame) → AllByRecursion (IsFrame codec) frames → map settled (table 2 frames) ≡ bits_of (table_part frames)
@@ -82,7 +58,7 @@ table_is codec (f ∷ g ∷ fs) a =
     ∙ (λ i. entry_is true f a.0.type i ++ table_is codec (g ∷ fs) a.1 i)
 
 -- the CRCs
-pub checks_are : (p : Profile) (frames : List Frame) → map (check_of p) (checked p frames) ≡ checks_part p frames
+checks_are : (p : Profile) (frames : List Frame) → map (check_of p) (checked p frames) ≡ checks_part p frames
 checks_are p frames = by_crc p.crc frames
   where
     one : (b : Bool) (f : Frame) (fs : List Frame) → map (check_of p) (cond b (f ∷ fs) fs) ≡ cond b (check_of p f ∷ []) [] ++ map (check_of p) fs
@@ -104,25 +80,19 @@ octet_bits bits o h =
     ∙ ap (part (8 * o) 8) (settled_padded bits ∙ sym (bits_of_filled bits))
     ∙ sym (run-is_part (filled bits) (8 * o) 8 (omega arith)) ∙ run-octet (filled bits) o
 
--- the octet at a place of frames
-abbrev pub octet_there : List Frame → Place → ℕ
-octet_there frames p = get_or (filled (get_or frames p.frame no_data).bits) p.octet 0
-
 -- octets that stand at places of frames
-pub record Stand (frames : List Frame) (places : List Place) (octets : List ℕ) : Type 0 where
-  pub bits : map settled (flat_map (octet_at frames) places) ≡ bits_of octets
-  pub many : length octets ≡ length places
-  pub are : octets ≡ map (octet_there frames) places
+record Stand (frames : List Frame) (places : List Place) (octets : List ℕ) : Type 0 where
+  bits : map settled (flat_map (octet_at frames) places) ≡ bits_of octets
+  many : length octets ≡ length places
 
 stand_none : (frames : List Frame) → Stand frames [] []
-stand_none frames = record { bits = refl; many = refl; are = refl }
+stand_none frames = record { bits = refl; many = refl }
 
 stand_more : (frames : List Frame) (ps qs : List Place) (xs ys : List ℕ) → Stand frames ps xs → Stand frames qs ys → Stand frames (ps ++ qs) (xs ++ ys)
 stand_more frames ps qs xs ys a b = record {
   bits = ap (map settled) (flat_map-append (octet_at frames) ps qs) ∙ map-append settled (flat_map (octet_at frames) ps) (flat_map (octet_at frames) qs)
       ∙ (λ i. a.bits i ++ b.bits i) ∙ sym (flat_map-append (nat 8) xs ys);
   many = let m = a.many in let n = b.many in omega (arith, length-append ps qs, length-append xs ys);
-  are = (λ i. a.are i ++ b.are i) ∙ sym (map-append (octet_there frames) ps qs);
 }
 
 stand_one : (frames : List Frame) (f o : ℕ) → o < octets_for (length (get_or frames f no_data).bits) → Stand frames (place o f ∷ []) (get_or (filled (get_or frames f no_data).bits) o 0 ∷ [])
@@ -131,7 +101,6 @@ stand_one frames f o h =
     record {
       bits = ap (map settled) (append-nil (part (8 * o) 8 (padded (fixed bits)))) ∙ octet_bits bits o h ∙ sym (append-nil (nat 8 (get_or (filled bits) o 0)));
       many = refl;
-      are = refl;
     }
 
 -- pieces of both, one behind the other
@@ -150,7 +119,7 @@ in_frame frames f b (suc n) h =
     (stand_more frames (place b f ∷ []) (map (λ (o : ℕ). place o f) (range_with_len (b + 1) n)) (get_or (filled bits) b 0 ∷ []) rest (stand_one frames f b (omega arith)) (in_frame frames f (b + 1) n (omega arith)))
 
 -- how many octets a frame has, by place
-pub count_at : (frames : List Frame) (k : ℕ) → get_or (octet_counts frames) k 0 ≡ octets_for (length (get_or frames k no_data).bits)
+count_at : (frames : List Frame) (k : ℕ) → get_or (octet_counts frames) k 0 ≡ octets_for (length (get_or frames k no_data).bits)
 count_at [] k = refl
 count_at (f ∷ fs) zero = refl
 count_at (f ∷ fs) (suc k) = count_at fs k
@@ -195,7 +164,7 @@ row_from frames o a (g ∷ gs) h =
         (subst (λ (z : Bool). Stand frames (map (λ (f : ℕ). place o f) places) (cond z (get_or (filled g.bits) o 0 ∷ []) [] ++ row_part gs o)) (sym t) rest)
 
 -- the frames in either order
-pub body_is : (sorting : Bool) (frames : List Frame) → Stand frames (order sorting (octet_counts frames)) (body_part sorting frames)
+body_is : (sorting : Bool) (frames : List Frame) → Stand frames (order sorting (octet_counts frames)) (body_part sorting frames)
 body_is false frames =
     subst (λ (n : ℕ). Stand frames (flat_map (λ (f : ℕ). map (λ (o : ℕ). place o f) (range_with_len 0 (get_or (octet_counts frames) f 0))) (range_with_len 0 n)) (plain_part frames))
     (sym (length-map frames (λ (f : Frame). octets_for (length f.bits)))) (plain_from frames 0 frames (λ k. ap (λ (n : ℕ). get_or frames n no_data) (omega arith)))
@@ -207,7 +176,7 @@ body_is true frames =
     (stand_each frames (row (length frames)) (row_part frames) (range_with_len 0 (longest_of frames)) (λ o. row_from frames o 0 frames (λ k. ap (λ (n : ℕ). get_or frames n no_data) (omega arith))))
 
 -- how many octets the frames have
-pub length-plain : (frames : List Frame) → length (plain_part frames) ≡ sum (octet_counts frames)
+length-plain : (frames : List Frame) → length (plain_part frames) ≡ sum (octet_counts frames)
 length-plain [] = refl
 length-plain (f ∷ fs) =
     let r = length-plain fs in
@@ -228,7 +197,7 @@ joined : (a b c d e : List ℕ) → bits_of ((a ++ b) ++ c ++ d ++ e) ≡ bits_o
 joined a b c d e = simp (flat_map-append, append_assoc)
 
 -- the bits of an octet-aligned payload
-pub settled_aligned : (p : Profile) (v : Value) → IsValue p v → map settled (aligned_layout p v (map (check_of p) (checked p v.frames))) ≡ bits_of (written_as p v)
+settled_aligned : (p : Profile) (v : Value) → IsValue p v → map settled (aligned_layout p v (map (check_of p) (checked p v.frames))) ≡ bits_of (written_as p v)
 settled_aligned p v h =
     let cs = map (check_of p) (checked p v.frames) in
     let request : map settled (fixed (nat 4 v.cmr)) ++ map settled (free 4) ≡ bits_of ((16 * v.cmr) ∷ []) = sym (halves v.cmr 0 (16 * v.cmr) (omega arith) (omega arith)) in
@@ -236,7 +205,7 @@ settled_aligned p v h =
     ∙ (λ i. request i ++ grouped p.interleaving h.blocks v h.group i ++ table_is p.codec v.frames h.frames i ++ (settled_fixed (bits_of cs) ∙ ap bits_of (checks_are p v.frames)) i ++ (body_is p.sorting v.frames).bits i)
     ∙ sym (joined ((16 * v.cmr) ∷ []) (interleaving_part p.interleaving v) (table_part v.frames) (checks_part p v.frames) (body_part p.sorting v.frames))
 
-pub settled_layout : (p : Profile) (v : Value) → p.octet_aligned ≡ true → IsValue p v → map settled (layout p v (map (check_of p) (checked p v.frames))) ≡ bits_of (written_as p v)
+settled_layout : (p : Profile) (v : Value) → p.octet_aligned ≡ true → IsValue p v → map settled (layout p v (map (check_of p) (checked p v.frames))) ≡ bits_of (written_as p v)
 settled_layout p v aligned h =
     let cs = map (check_of p) (checked p v.frames) in
     ap (λ z. map settled (cond z (aligned_layout p v cs) (packed_layout v))) aligned ∙ settled_aligned p v h
@@ -246,13 +215,13 @@ pub text_is : (p : Profile) (v : Value) → p.octet_aligned ≡ true → IsValue
 text_is p v aligned h = ap filled (settled_layout p v aligned h)
 
 -- how many octets a table has
-pub length-table : (frames : List Frame) → length (table_part frames) ≡ length frames
+length-table : (frames : List Frame) → length (table_part frames) ≡ length frames
 length-table [] = refl
 length-table (f ∷ []) = refl
 length-table (f ∷ g ∷ fs) = ap suc (length-table (g ∷ fs))
 
 -- and a header
-pub length-header : (p : Profile) (v : Value) → length (header_part p v) ≡ cond (is_some p.interleaving) 2 1
+length-header : (p : Profile) (v : Value) → length (header_part p v) ≡ cond (is_some p.interleaving) 2 1
 length-header p v = by p.interleaving
   where
     by : (o : Option ℕ) → length ((16 * v.cmr) ∷ interleaving_part o v) ≡ cond (is_some o) 2 1
@@ -260,7 +229,7 @@ length-header p v = by p.interleaving
     by (Some most) = refl
 
 -- and a payload
-pub length-written : (p : Profile) (v : Value) → length (written_as p v) ≡ cond (is_some p.interleaving) 2 1 + length v.frames + length (checks_part p v.frames) + length (plain_part v.frames)
+length-written : (p : Profile) (v : Value) → length (written_as p v) ≡ cond (is_some p.interleaving) 2 1 + length v.frames + length (checks_part p v.frames) + length (plain_part v.frames)
 length-written p v =
     let a = header_part p v in
     let t = table_part v.frames in
@@ -297,7 +266,3 @@ bits_of_text p v aligned h =
     let l = length-bits_of w in
     let none : gap b ≡ 0 = omega arith in
     ap bits_of (text_is p v aligned h) ∙ bits_of_filled b ∙ ap (λ (n : ℕ). b ++ replicate n false) none ∙ append-nil b ∙ sym (settled_layout p v aligned h)
-
--- and those of its parts
-pub bits_of_parts : (p : Profile) (v : Value) → p.octet_aligned ≡ true → IsValue p v → bits_of (text p v) ≡ bits_of (written_as p v)
-bits_of_parts p v aligned h = bits_of_text p v aligned h ∙ settled_layout p v aligned h

@@ -5,7 +5,7 @@ use Rattle.amr_bits.specs.Bits.{bits_at}
 use Rattle.amr_frame.specs.declared.profile.Profile.{Profile}
 use Rattle.amr_frame.specs.First.{when, first}
 use Rattle.amr_frame.specs.Profiles.{group_bound}
-use Rattle.payload_laws.proofs.Formats.{first_none}
+use Rattle.amr_frame.proofs.FirstLemmas.{first_none}
 use Rattle.spec_payload.specs.declared.refusal.PayloadRefusal.{PayloadRefusal}
 use Rattle.spec_payload.specs.declared.refusal.PayloadRefusal.TheVariants as why
 use Rattle.spec_payload.specs.Reading.{entries, types, entry_fault, last_entry, head_bits, entry_bits, need, where_grouped, ill, ilp}

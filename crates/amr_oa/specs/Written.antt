@@ -44,7 +44,8 @@ plain_part frames = flat_map frame_part frames
 
 -- octet o of a frame, where it has one
 abbrev pub octet_part : ℕ → Frame → List ℕ
-octet_part o f = cond (nat_lt o (octets_for (length f.bits))) (slice_index (filled f.bits) o ∷ []) []
+octet_part o f = cond (nat_lt o (octets_for (length f.bits)))
+    (slice_index (filled f.bits) o ∷ []) []
 
 -- octet o of each frame
 abbrev pub row_part : List Frame → ℕ → List ℕ
@@ -65,4 +66,5 @@ body_part true frames = sorted_part frames
 
 -- all octets
 abbrev pub written_as : Profile → Value → List ℕ
-written_as p v = header_part p v ++ table_part v.frames ++ checks_part p v.frames ++ body_part p.sorting v.frames
+written_as p v = header_part p v ++ table_part v.frames ++ checks_part p v.frames
+    ++ body_part p.sorting v.frames

@@ -32,7 +32,8 @@ fn octets_in(cell: &Cell) -> usize
 
 /// Writes the frames of cells at an octet, in the order of the format.
 pub(crate) fn put_bodies(profile: &Profile, cells: &[Cell], start: usize, out: &mut [u8])
-    requires { start + length (body_part profile.now.sorting (frames_of cells.now)) ≤ length out.old }
+    requires { start + length (body_part profile.now.sorting (frames_of cells.now))
+        ≤ length out.old }
     ensures { take (start + length (body_part profile.now.sorting (frames_of cells.now))) out.new
         ≡ take start out.old ++ body_part profile.now.sorting (frames_of cells.now) }
 {
@@ -95,7 +96,8 @@ fn longest(cells: &[Cell]) -> usize
 fn put_row(cells: &[Cell], octet: usize, start: usize, out: &mut [u8]) -> usize
     requires { start + length (row_part (frames_of cells.now) octet) ≤ length out.old }
     ensures at { result ≡ start + length (row_part (frames_of cells.now) octet) }
-    ensures octets { take result out.new ≡ take start out.old ++ row_part (frames_of cells.now) octet }
+    ensures octets { take result out.new
+        ≡ take start out.old ++ row_part (frames_of cells.now) octet }
 {
     let mut at = start;
     for cell in cells {

@@ -11,7 +11,11 @@ ghost use Rattle.spec_payload.specs.declared.refusal.PayloadRefusal.{PayloadRefu
 /// The canonical octets of a value in an octet-aligned format aren't refused, and what is read of them is
 /// the value. No frame of a view of them is damaged.
 pub fn reads_what_was_written()
-    ensures accepted { (p : Profile) (v : Value) (why : PayloadRefusal) → IsValid p → p.octet_aligned ≡ true → IsValue p v → IsRefused p (text p v) why → ⊥ }
-    ensures value { (p : Profile) (v w : Value) → IsValid p → p.octet_aligned ≡ true → IsValue p v → IsRead p (text p v) w → w ≡ v }
-    ensures undamaged { (view : PayloadView) (v : Value) (k : ℕ) → IsValid (format_of view) → (format_of view).octet_aligned ≡ true → IsValue (format_of view) v → octets_of view ≡ text (format_of view) v → is_damaged view k ≡ false }
+    ensures accepted { (p : Profile) (v : Value) (why : PayloadRefusal) → IsValid p
+        → p.octet_aligned ≡ true → IsValue p v → IsRefused p (text p v) why → ⊥ }
+    ensures value { (p : Profile) (v w : Value) → IsValid p → p.octet_aligned ≡ true → IsValue p v
+        → IsRead p (text p v) w → w ≡ v }
+    ensures undamaged { (view : PayloadView) (v : Value) (k : ℕ) → IsValid (format_of view)
+        → (format_of view).octet_aligned ≡ true → IsValue (format_of view) v
+        → octets_of view ≡ text (format_of view) v → is_damaged view k ≡ false }
 {}

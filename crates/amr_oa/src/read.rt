@@ -63,7 +63,8 @@ fn accept<'a>(profile: &Profile, octets: &'a [u8]) -> Result<Toc<'a>, PayloadRef
 /// What is wrong before the table: P1 to P3.
 fn header_fault(profile: &Profile, octets: &[u8]) -> Option<PayloadRefusal>
     ensures refused { result ≡ header_refusal profile.now octets.now }
-    ensures whole { IfNone result (cond (is_some profile.now.interleaving) 2 1 ≤ length octets.now) }
+    ensures whole { IfNone result
+        (cond (is_some profile.now.interleaving) 2 1 ≤ length octets.now) }
 {
     if octets.is_empty() {
         return Some(PayloadRefusal::Empty);
@@ -86,7 +87,8 @@ fn header_fault(profile: &Profile, octets: &[u8]) -> Option<PayloadRefusal>
 fn group_fault(profile: &Profile, octets: &[u8], toc: &Toc<'_>) -> Option<PayloadRefusal>
     requires channels { 0 < profile.now.channels }
     requires header { cond (is_some profile.now.interleaving) 2 1 ≤ length octets.now }
-    ensures { result ≡ group_refusal profile.now octets.now (length (listed toc.now) / profile.now.channels) }
+    ensures { result ≡ group_refusal profile.now octets.now
+        (length (listed toc.now) / profile.now.channels) }
 {
     let Some(most) = profile.interleaving else {
         return None;
@@ -103,9 +105,12 @@ fn group_fault(profile: &Profile, octets: &[u8], toc: &Toc<'_>) -> Option<Payloa
 /// a usize counts.
 fn behind_header<'a>(profile: &Profile, octets: &'a [u8]) -> BitSlice<'a>
     requires { cond (is_some profile.now.interleaving) 2 1 ≤ length octets.now }
-    ensures bits { run result ≡ bits_at octets.now (8 * cond (is_some profile.now.interleaving) 2 1) result.len }
-    ensures fits { 8 * cond (is_some profile.now.interleaving) 2 1 + result.len ≤ 8 * length octets.now }
-    ensures enough { (8 * cond (is_some profile.now.interleaving) 2 1 + result.len ≡ 8 * length octets.now) ⊎ (3080 ≤ result.len) }
+    ensures bits { run result
+        ≡ bits_at octets.now (8 * cond (is_some profile.now.interleaving) 2 1) result.len }
+    ensures fits { 8 * cond (is_some profile.now.interleaving) 2 1 + result.len
+        ≤ 8 * length octets.now }
+    ensures enough { (8 * cond (is_some profile.now.interleaving) 2 1 + result.len
+        ≡ 8 * length octets.now) ⊎ (3080 ≤ result.len) }
 {
     let start = 8 * header_octets(profile);
     BitSlice {

@@ -43,7 +43,8 @@ fn check_octets(profile: &Profile, cells: &[Cell]) -> usize
 
 /// Whether the frame of a cell has a CRC.
 fn has_check(profile: &Profile, cell: &Cell) -> bool
-    ensures { check_part profile.now (frame_of cell.now) ≡ cond result (check_of profile.now (frame_of cell.now) ∷ []) [] }
+    ensures { check_part profile.now (frame_of cell.now)
+        ≡ cond result (check_of profile.now (frame_of cell.now) ∷ []) [] }
 {
     profile.crc && cell.bits.len() > 0
 }
@@ -107,9 +108,11 @@ fn entry_of(profile: &Profile, cell: &Cell, more: bool) -> u8
 /// Writes the CRCs of cells at an octet, and gives the place behind them (RFC 4867, 4.4.2.1).
 fn put_checks(profile: &Profile, cells: &[Cell], start: usize, out: &mut [u8]) -> usize
     requires frames { AllByRecursion (IsFrame profile.now.codec) (frames_of cells.now) }
-    requires fits { start + length (checks_part profile.now (frames_of cells.now)) ≤ length out.old }
+    requires fits { start + length (checks_part profile.now (frames_of cells.now))
+        ≤ length out.old }
     ensures at { result ≡ start + length (checks_part profile.now (frames_of cells.now)) }
-    ensures octets { take result out.new ≡ take start out.old ++ checks_part profile.now (frames_of cells.now) }
+    ensures octets { take result out.new
+        ≡ take start out.old ++ checks_part profile.now (frames_of cells.now) }
 {
     let mut at = start;
     for cell in cells {
@@ -123,7 +126,8 @@ fn put_check(profile: &Profile, cell: &Cell, at: usize, out: &mut [u8]) -> usize
     requires frame { IsFrame profile.now.codec (frame_of cell.now) }
     requires fits { at + length (check_part profile.now (frame_of cell.now)) ≤ length out.old }
     ensures at { result ≡ at + length (check_part profile.now (frame_of cell.now)) }
-    ensures octets { take result out.new ≡ take at out.old ++ check_part profile.now (frame_of cell.now) }
+    ensures octets { take result out.new
+        ≡ take at out.old ++ check_part profile.now (frame_of cell.now) }
 {
     if !has_check(profile, cell) {
         return at;

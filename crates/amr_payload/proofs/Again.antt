@@ -1,10 +1,8 @@
 -- Payloads of every format that are written, and written again.
-use Rattle.std.proofs.Common.{◌≡◌, ℕ, ◌<◌, ◌^◌, false, cond, List, [], ◌∷◌, length, map, take, sym, ap, ◌∙◌, arith, inl, inr}
-use Rattle.std.specs.List.{AllByRecursion}
+use Rattle.std.proofs.Common.{◌≡◌, ℕ, false, cond, List, [], length, map, sym, ap, ◌∙◌, arith, inl, inr}
 use Rattle.std.proofs.lemmas.List.{length-map}
-use Rattle.amr_bits.specs.Bits.{bits_of, number}
+use Rattle.amr_bits.specs.Bits.{bits_of}
 use Rattle.amr_bits.specs.Layout.{fits, settled}
-use Rattle.amr_bits.proofs.Numbers.{number-lt}
 use Rattle.amr_be.proofs.Again.{bits_of_text as packed_bits, not_refused as packed_accepted, same_value as packed_value, undamaged as packed_undamaged}
 use Rattle.amr_oa.proofs.Accepting.{none_refuses as aligned_accepted, same_value as aligned_value, undamaged as aligned_undamaged}
 use Rattle.amr_toc.specs.declared.view.PayloadView.{PayloadView}
@@ -13,17 +11,14 @@ use Rattle.amr_toc.specs.Viewed.{format_of, octets_of, is_damaged}
 use Rattle.spec_payload.specs.declared.refusal.PayloadRefusal.{PayloadRefusal}
 use Rattle.amr_oa.proofs.Canonical.{bits_of_text as aligned_bits}
 use Rattle.amr_frame.specs.declared.profile.Profile.{Profile}
-use Rattle.amr_frame.specs.Frames.{Frame}
 use Rattle.amr_frame.specs.Profiles.{IsValid}
-use Rattle.amr_frame.specs.Tables.{class_a_in}
 use Rattle.amr_payload.specs.Checks.{own_checks}
 use Rattle.amr_toc.specs.Cleared.{cleared}
 use Rattle.amr_toc.proofs.Marked.{either}
-use Rattle.amr_toc.proofs.Settled.{cleared_is, fits_length, fits_settled}
-use Rattle.payload_laws.proofs.Division.{crc_is}
-use Rattle.payload_laws.proofs.Entries.{length-bits_of}
+use Rattle.amr_toc.proofs.Settled.{cleared_is, fits_settled}
+use Rattle.payload_laws.proofs.Checks.{checks_below}
+use Rattle.payload_laws.proofs.Marks.{length-bits_of, fits_length}
 use Rattle.payload_laws.proofs.OneValue.{one_value, one_checks}
-use Rattle.spec_payload.specs.FrameCrc.{crc_of}
 use Rattle.spec_payload.specs.Grammar.{IsPayload, layout, aligned_layout, packed_layout, text, check_of, checked}
 use Rattle.spec_payload.specs.Values.{Value, IsValue}
 
@@ -36,22 +31,12 @@ bits_are p v h = elim (either p.octet_aligned) [
       ∙ sym (ap (λ z. map settled (cond z (aligned_layout p v (own_checks p v)) (packed_layout v))) packed)
 ]
 
--- CRCs are octets
-checks_small : (p : Profile) (fs : List Frame) → AllByRecursion (λ (c : ℕ). c < 256) (map (check_of p) fs)
-checks_small p [] = tt
-checks_small p (f ∷ fs) =
-    let r = crc_of (take (class_a_in p.codec f.ft) f.bits) in
-    let l : length r ≡ 8 = (crc_is (take (class_a_in p.codec f.ft) f.bits)).eight in
-    let e : 2 ^ length r ≡ 256 = ap (λ (n : ℕ). 2 ^ n) l in
-    let h : number r < 2 ^ length r = number-lt r in
-    (omega (arith, h, e), checks_small p fs)
-
 -- they are a payload of the value
 pub is_payload : (p : Profile) (v : Value) → IsValid p → IsValue p v → IsPayload p v (own_checks p v) (text p v)
 is_payload p v valid h = record {
   value = h;
   as_many = length-map (checked p v.frames) (check_of p);
-  are_octets = checks_small p (checked p v.frames);
+  are_octets = checks_below p (checked p v.frames);
   bits = ap (fits (layout p v (own_checks p v))) (bits_are p v h) ∙ fits_settled (layout p v (own_checks p v));
 }
 

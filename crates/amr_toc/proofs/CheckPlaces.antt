@@ -15,8 +15,10 @@ use Rattle.spec_payload.specs.Values.{has_bits}
 use Rattle.amr_toc.specs.declared.entry.Entry.{Entry}
 use Rattle.amr_toc.specs.Lists.{types_of, toc_at}
 use Rattle.amr_toc.specs.Viewed.{checks_to}
-use Rattle.amr_toc.proofs.Marked.{either, marked_none, marked_at, count_with, seen_as, differs}
-use Rattle.amr_toc.proofs.Shown.{length_types, types_are, entries_are, size}
+use Rattle.amr_toc.proofs.Marked.{either, keeps_q, marked_at, count_with, seen_as, differs}
+use Rattle.payload_laws.proofs.Seeing.{marked_none}
+use Rattle.amr_toc.proofs.Shown.{types_are, entries_are, size}
+use Rattle.payload_laws.proofs.Valued.{length_types}
 use Rattle.amr_toc.proofs.Standing.{aligned_need, aligned_start}
 
 -- whether frames of a type have bits
@@ -95,10 +97,6 @@ damage p octets k =
 -- a frame by its parts
 abbrev pub frame : ℕ → Bool → List Bool → Frame
 frame ft q bits = record { ft = ft; q = q; bits = bits }
-
-keeps_q : (q : Bool) → q ≡ (q && true)
-keeps_q true = refl
-keeps_q false = refl
 
 -- frame k as it is seen
 pub viewed_at : (p : Profile) (octets : List ℕ) (k : ℕ) → k < entries p octets → get_or (seen p (value_at p octets) (checks_at p octets)).frames k no_data ≡ seen_as (get_or (value_at p octets).frames k no_data) (damage p octets k)

@@ -10,6 +10,7 @@ use Rattle.spec_payload.specs.declared.refusal.PayloadRefusal.{PayloadRefusal}
 use Rattle.spec_payload.specs.declared.refusal.PayloadRefusal.TheVariants as why
 use Rattle.payload_laws.proofs.Ranges.{find_from}
 use Rattle.amr_toc.specs.Table.{more_of, type_of, fault_of, ends_at, last_of}
+use Rattle.amr_frame.proofs.FirstLemmas.{or_true, third}
 
 -- the last entry is the first that ends the table
 pub last_is : (p : Profile) (width : ℕ) (bits : List Bool) (k : ℕ) → k < p.max_blocks * p.channels + 1 → ((j : ℕ) → j < k → ends_at p width bits j ≡ false) → ends_at p width bits k ≡ true → last_of p width bits ≡ k
@@ -18,26 +19,6 @@ last_is p width bits k h none hit = ap (λ (o : Option ℕ). unwrap_or o 0) (fin
 -- a fault ends it
 pub fault_ends : (o : Option PayloadRefusal) (b : Bool) (r : PayloadRefusal) → o ≡ Some r → (is_some o || not b) ≡ true
 fault_ends o b r e = rw e refl
-
--- F = 0 ends it
-pub zero_ends : (o : Option PayloadRefusal) (b : Bool) → b ≡ false → (is_some o || not b) ≡ true
-zero_ends None b e = rw e refl
-zero_ends (Some r) b e = refl
-
--- no fault and F = 1 don't
-pub goes_on : (o : Option PayloadRefusal) (b : Bool) → o ≡ None → b ≡ true → (is_some o || not b) ≡ false
-goes_on o b e f = rw (e, f) refl
-
--- the third of three rules holds
-pub third : (a b d : Bool) (x y z : PayloadRefusal) → d ≡ true → is_some (first (when a x ∷ when b y ∷ when d z ∷ [])) ≡ true
-third true b d x y z e = refl
-third false true d x y z e = refl
-third false false d x y z e = rw e refl
-
--- where the first of two holds
-pub or_true : (a b : Bool) → a ≡ true → (a || b) ≡ true
-or_true true b e = refl
-or_true false b e = absurd cc
 
 -- the table ends at the latest one entry past the most
 pub ends_at_most : (p : Profile) (width : ℕ) (bits : List Bool) → ends_at p width bits (p.max_blocks * p.channels) ≡ true

@@ -1,14 +1,18 @@
 -- The bits of an entry that is written.
-use Rattle.std.proofs.Common.{◌≡◌, ℕ, ◌+◌, ◌-◌, ◌*◌, ◌/◌, ◌%◌, ◌^◌, ◌≤◌, Bool, true, false, nat_eq, [], ◌∷◌, ◌++◌, sym, refl, ap, subst, ◌∙◌, arith, inl, inr}
+use Rattle.std.proofs.Common.{◌≡◌, ℕ, ◌+◌, ◌-◌, ◌*◌, ◌/◌, ◌%◌, ◌^◌, ◌≤◌, Bool, true, false, cond, nat_eq, [], ◌∷◌, ◌++◌, sym, refl, ap, subst, ◌∙◌, arith, inl, inr}
 use mir.Val.{bool_byte}
 use Rattle.std.specs.Prelude.{◌⊎◌}
 use Rattle.amr_bits.specs.Bits.{nat}
 use Rattle.amr_toc.specs.declared.entry.Entry.{Entry}
 use Rattle.amr_toc.specs.Entries.{entry_text}
 
--- a bit as a number
-abbrev digit : Bool → ℕ
-digit b = bool_byte b
+-- a bit as a number, also as a byte
+abbrev pub digit : Bool → ℕ
+digit b = cond b 1 0
+
+byte_is : (b : Bool) → bool_byte b ≡ digit b
+byte_is true = refl
+byte_is false = refl
 
 small : (b : Bool) → digit b ≤ 1
 small true = omega arith
@@ -20,9 +24,10 @@ is_bit false = refl
 
 -- the number of the six bits
 abbrev six : Bool → ℕ → Bool → ℕ
-six more ft q = 32 * digit more + 2 * ft + digit q
+six more ft q = 32 * bool_byte more + 2 * ft + bool_byte q
 
-narrow : (more q : Bool) (ft v : ℕ) → ft ≤ 15 → v ≡ six more ft q → nat 6 v ≡ more ∷ nat 4 ft ++ q ∷ []
+-- an entry of six bits, and one with two free bits behind it
+narrow : (more q : Bool) (ft v : ℕ) → ft ≤ 15 → v ≡ 32 * digit more + 2 * ft + digit q → nat 6 v ≡ more ∷ nat 4 ft ++ q ∷ []
 narrow more q ft v h e =
     let a = small more in
     let b = small q in
@@ -34,7 +39,7 @@ narrow more q ft v h e =
     let four : v / 2 % 2 ≡ ft / 1 % 2 = omega arith in
     λ i. first i ∷ nat_eq (one i) 1 ∷ nat_eq (two i) 1 ∷ nat_eq (three i) 1 ∷ nat_eq (four i) 1 ∷ last i ∷ []
 
-wide : (more q : Bool) (ft v : ℕ) → ft ≤ 15 → v ≡ six more ft q * 4 → nat 8 v ≡ more ∷ nat 4 ft ++ q ∷ false ∷ false ∷ []
+pub wide : (more q : Bool) (ft v : ℕ) → ft ≤ 15 → v ≡ 128 * digit more + 8 * ft + 4 * digit q → nat 8 v ≡ more ∷ nat 4 ft ++ q ∷ false ∷ false ∷ []
 wide more q ft v h e =
     let a = small more in
     let b = small q in
@@ -53,6 +58,8 @@ pub entry_is : (e : Entry) (more : Bool) (width : ℕ) → e.ft ≤ 15 → (widt
 entry_is e more width h w =
     let a = small more in
     let b = small e.q in
+    let x = byte_is more in
+    let y = byte_is e.q in
     elim w [
       | inl is ↦ subst (λ (n : ℕ). nat n (six more e.ft e.q * 2 ^ (n - 6) % 2 ^ 32) ≡ entry_text n e more) (sym is) (narrow more e.q e.ft (six more e.ft e.q * 1 % 2 ^ 32) h (omega arith))
       | inr is ↦ subst (λ (n : ℕ). nat n (six more e.ft e.q * 2 ^ (n - 6) % 2 ^ 32) ≡ entry_text n e more) (sym is) (wide more e.q e.ft (six more e.ft e.q * 4 % 2 ^ 32) h (omega arith))

@@ -13,7 +13,7 @@ use Rattle.amr_frame.specs.Tables.{is_reserved}
 use Rattle.spec_payload.specs.declared.refusal.PayloadRefusal.{PayloadRefusal}
 use Rattle.spec_payload.specs.declared.refusal.PayloadRefusal.TheVariants as why
 use Rattle.spec_payload.specs.Reading.{head_bits, entry_bits, type_at, more_at, quality_at, entry_fault, ends_table, last_entry}
-use Rattle.payload_laws.proofs.Formats.{first_none, when_none}
+use Rattle.amr_frame.proofs.FirstLemmas.{first_none, when_none}
 use Rattle.payload_laws.proofs.Ranges.{first_of_range}
 use Rattle.amr_toc.proofs.Ends.{ends_at_most}
 use Rattle.amr_toc.specs.Lists.{entry_in, toc_at}

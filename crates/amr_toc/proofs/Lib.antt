@@ -1,4 +1,3 @@
-pub mod Accepted
 pub mod CheckPlaces
 pub mod Ends
 pub mod EntryBits

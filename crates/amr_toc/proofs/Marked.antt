@@ -15,11 +15,6 @@ pub either : (b : Bool) → (b ≡ true) ⊎ (b ≡ false)
 either true = inl refl
 either false = inr refl
 
--- no CRC marks no frame
-pub marked_none : (p : Profile) (fs : List Frame) → marked p fs [] ≡ fs
-marked_none p [] = refl
-marked_none p (f ∷ fs) = ap {B = List Frame} (λ t. f ∷ t) (marked_none p fs)
-
 -- a frame with this Q
 abbrev with_q : Frame → Bool → Frame
 with_q f q = record { ft = f.ft; q = q; bits = f.bits }
@@ -55,7 +50,7 @@ differs p f c = has_bits f && not (eqb c (check_of p f))
 abbrev pub seen_as : Frame → Bool → Frame
 seen_as f damaged = with_q f (f.q && not damaged)
 
-keeps_q : (q : Bool) → q ≡ (q && true)
+pub keeps_q : (q : Bool) → q ≡ (q && true)
 keeps_q true = refl
 keeps_q false = refl
 

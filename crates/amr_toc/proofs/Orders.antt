@@ -3,17 +3,10 @@ use Rattle.std.proofs.Common.{◌≡◌, ℕ, zero, suc, ◌+◌, ◌<◌, ◌�
 use Rattle.std.specs.Prelude.{◌&&◌, flat_map}
 use Rattle.std.specs.List.{range_with_len, position_or_len}
 use Rattle.std.proofs.lemmas.Bool.{cases_eq, eq-eqb, ne_eqb}
-use Rattle.std.proofs.lemmas.List.Sums.{sum_by_more}
 use Rattle.spec_payload.specs.Reading.{is_place}
 use Rattle.spec_payload.specs.RobustOrder.{Place, place, plain_order}
-
--- where one of two tests fails
-fails_first : (a b : Bool) → a ≡ false → (a && b) ≡ false
-fails_first a b e = rw e refl
-
-fails_second : (a b : Bool) → b ≡ false → (a && b) ≡ false
-fails_second true b e = e
-fails_second false b e = refl
+use Rattle.amr_bits.proofs.Lists.{sum-more}
+use Rattle.payload_laws.proofs.Orders.{fails_first, fails_second}
 
 -- where both hold
 both_hold : (a b : Bool) → a ≡ true → b ≡ true → (a && b) ≡ true
@@ -65,9 +58,6 @@ in_rows size o k a (suc n) (suc d) l e h =
 sizes-more : (size : ℕ → ℕ) (a n b : ℕ) → a + n ≡ b → sizes size a (suc n) ≡ sizes size a n + size b
 sizes-more size a zero b e = let s : size a ≡ size b = ap size (omega arith) in omega arith
 sizes-more size a (suc n) b e = let r = sizes-more size (a + 1) n b (omega arith) in omega arith
-
-sum-more : (ls : List ℕ) (n : ℕ) → n < length ls → sum (take (suc n) ls) ≡ sum (take n ls) + get_or ls n 0
-sum-more ls n h = let e : suc n ≡ n + 1 = omega arith in ap (λ k. sum (take k ls)) e ∙ sum_by_more (λ x. x) ls n 0 h
 
 sizes_are : (ls : List ℕ) (k : ℕ) → k ≤ length ls → sizes (λ (f : ℕ). get_or ls f 0) 0 k ≡ sum (take k ls)
 sizes_are ls zero h = refl

@@ -36,13 +36,6 @@ cleared_is (Some a ∷ marks) (b ∷ bits) e =
     let same : b ≡ a = sym (same_bit_is a b f.0) in
     λ i. same i ∷ cleared_is marks bits f.1 i
 
--- bits are as many as the places of their layout
-pub fits_length : (marks : List Mark) (bits : List Bool) → fits marks bits ≡ true → length bits ≡ length marks
-fits_length [] [] e = refl
-fits_length [] (b ∷ bits) e = absurd cc
-fits_length (m ∷ marks) [] e = absurd cc
-fits_length (m ∷ marks) (b ∷ bits) e = ap suc (fits_length marks bits (front_bit m marks b bits e).1)
-
 -- a bit is itself
 same_self : (b : Bool) → same_bit b b ≡ true
 same_self true = refl

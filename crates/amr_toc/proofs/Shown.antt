@@ -6,11 +6,12 @@ use Rattle.std.proofs.lemmas.List.FromFn.{length-map-range_with_len, get_or-map-
 use Rattle.amr_frame.specs.declared.profile.Profile.{Profile}
 use Rattle.amr_frame.specs.Frames.{Frame, no_data}
 use Rattle.amr_frame.specs.Tables.{bits_in}
-use Rattle.spec_payload.specs.Reading.{entries, types, type_at, frame_at, frame_bit, value_at, checks_at}
+use Rattle.spec_payload.specs.Reading.{entries, types, frame_at, frame_bit, value_at, checks_at}
 use Rattle.spec_payload.specs.Seen.{seen}
 use Rattle.amr_toc.specs.declared.entry.Entry.{Entry}
 use Rattle.amr_toc.specs.Lists.{types_of, entry_in, toc_at}
 use Rattle.amr_toc.proofs.Marked.{length-marked}
+use Rattle.payload_laws.proofs.Valued.{length_types, type_is}
 
 -- the types of the entries are those of the table
 pub types_same : (p : Profile) (octets : List ℕ) → types_of (toc_at p octets) ≡ types p octets
@@ -18,10 +19,6 @@ types_same p octets = map-map (λ (e : Entry). e.ft) (entry_in p octets) (range_
 
 pub types_are : (p : Profile) (octets : List ℕ) (es : List Entry) → es ≡ toc_at p octets → types_of es ≡ types p octets
 types_are p octets es e = ap types_of e ∙ types_same p octets
-
--- there are as many types as entries
-pub length_types : (p : Profile) (octets : List ℕ) → length (types p octets) ≡ entries p octets
-length_types p octets = length-map-range_with_len (type_at p octets) 0 (entries p octets)
 
 -- there are as many frames as entries
 pub said_count : (p : Profile) (octets : List ℕ) → length (value_at p octets).frames ≡ length (toc_at p octets)
@@ -50,10 +47,6 @@ pub entry_is : (p : Profile) (octets : List ℕ) (es : List Entry) (k : ℕ) (ot
 entry_is p octets es k other e h =
     let l = entries_are p octets es e in
     ap (λ xs. get_or xs k other) e ∙ get_or-map-range_with_len (entry_in p octets) 0 (entries p octets) k k other (omega arith) (omega arith)
-
--- the type of entry k
-pub type_is : (p : Profile) (octets : List ℕ) (k : ℕ) → k < entries p octets → get_or (types p octets) k 0 ≡ type_at p octets k
-type_is p octets k h = get_or-map-range_with_len (type_at p octets) 0 (entries p octets) k k 0 h (omega arith)
 
 -- frame k
 pub frame_is : (p : Profile) (octets : List ℕ) (k : ℕ) → k < entries p octets → get_or (value_at p octets).frames k no_data ≡ frame_at p octets (types p octets) k

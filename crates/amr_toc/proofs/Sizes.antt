@@ -8,12 +8,12 @@ use Rattle.std.proofs.lemmas.List.Sums.{sum-map, sum_by-cons, length-filter}
 use Rattle.std.proofs.lemmas.Simd.{map-map}
 use Rattle.std.specs.Prelude.{sum, filter}
 use Rattle.amr_bits.specs.Bits.{number}
+use Rattle.amr_bits.proofs.Numbers.{number-lt}
 use Rattle.amr_bits.specs.Runs.{run}
 use Rattle.amr_frame.specs.declared.codec.Codec.{Codec}
 use Rattle.amr_frame.specs.declared.codec.Codec.TheVariants.{Amr, AmrWb}
 use Rattle.amr_frame.specs.declared.codec.Kind.TheVariants.{Reserved}
 use Rattle.amr_frame.specs.Tables.{Row, rows, bits_in, octets_in}
-use Rattle.payload_laws.proofs.Ranges.{four_below}
 use Rattle.amr_toc.specs.declared.entry.Entry.{Entry}
 use Rattle.amr_toc.specs.Entries.{HasTypes}
 use Rattle.amr_toc.specs.declared.entry.Toc.{Toc}
@@ -23,10 +23,10 @@ use Rattle.amr_toc.specs.Table.{entry_of}
 -- at most four bits spell a number below 16
 pub four_small : (xs : List Bool) → number (take 4 xs) ≤ 15
 four_small [] = omega arith
-four_small (a ∷ []) = let h = four_below false false false a in omega arith
-four_small (a ∷ b ∷ []) = let h = four_below false false a b in omega arith
-four_small (a ∷ b ∷ c ∷ []) = let h = four_below false a b c in omega arith
-four_small (a ∷ b ∷ c ∷ d ∷ xs) = let h = four_below a b c d in omega arith
+four_small (a ∷ []) = let h = number-lt (a ∷ []) in omega arith
+four_small (a ∷ b ∷ []) = let h = number-lt (a ∷ b ∷ []) in omega arith
+four_small (a ∷ b ∷ c ∷ []) = let h = number-lt (a ∷ b ∷ c ∷ []) in omega arith
+four_small (a ∷ b ∷ c ∷ d ∷ xs) = let h = number-lt (a ∷ b ∷ c ∷ d ∷ []) in omega arith
 
 -- the types of entries that are read have four bits
 pub small_types : (width : ℕ) (bits : List Bool) (n : ℕ) → HasTypes (map (entry_of width bits) (range_with_len 0 n))

@@ -17,13 +17,14 @@ use Rattle.spec_payload.specs.Reading.{entries, entry_start, types, frame_bit, v
 use Rattle.spec_payload.specs.RobustOrder.{order, robust_order}
 use Rattle.amr_guard.specs.Sorting.{IsOctet, robust_place}
 use Rattle.amr_toc.specs.Places.{sizes_in, body_bit, bits_to, octet_place}
-use Rattle.amr_toc.proofs.Accepted.{good}
+use Rattle.payload_laws.proofs.Rules.{good}
 use Rattle.amr_toc.proofs.InPayload.{map_alike}
 use Rattle.amr_toc.proofs.Marked.{either}
 use Rattle.amr_toc.proofs.Orders.{plain_stands}
 use Rattle.amr_toc.specs.declared.entry.Entry.{Entry}
 use Rattle.amr_toc.specs.Lists.{types_of, toc_at}
-use Rattle.amr_toc.proofs.Shown.{length_types, types_are, entries_are, frame_is, length_bits, size}
+use Rattle.amr_toc.proofs.Shown.{types_are, entries_are, frame_is, length_bits, size}
+use Rattle.payload_laws.proofs.Valued.{length_types}
 
 -- the first bit of frame k, where the frames aren't sorted
 abbrev pub first_bit : Profile → List ℕ → ℕ → ℕ

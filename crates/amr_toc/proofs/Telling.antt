@@ -1,10 +1,10 @@
 -- What a reader tells of octets, by the rules that hold.
-use Rattle.std.proofs.Common.{◌≡◌, ℕ, ◌<◌, Bool, true, eqb, ltb, List, [], ◌∷◌, length, refl, ap, ◌∙◌, sym, arith, Option, Some, None}
+use Rattle.std.proofs.Common.{◌≡◌, ℕ, Bool, true, eqb, ltb, List, [], ◌∷◌, length, refl, ap, ◌∙◌, sym, arith, Option, Some, None}
 use Rattle.std.specs.Prelude.{Ok}
 use Rattle.std.proofs.lemmas.Bool.{eq-eqb, ltb-false}
 use Rattle.amr_frame.specs.declared.profile.Profile.{Profile}
 use Rattle.amr_frame.specs.First.{when, first}
-use Rattle.payload_laws.proofs.Formats.{first_none, when_none}
+use Rattle.amr_frame.proofs.FirstLemmas.{first_none, when_none}
 use Rattle.spec_payload.specs.declared.refusal.PayloadRefusal.{PayloadRefusal}
 use Rattle.spec_payload.specs.declared.refusal.PayloadRefusal.TheVariants as why
 use Rattle.spec_payload.specs.Reading.{payload_refusal, read_as, value_at, checks_at}
@@ -19,10 +19,6 @@ at_empty e x os h = rw h refl
 -- no octet is refused as none
 pub empty_is : (p : Profile) (octets : List ℕ) → length octets ≡ 0 → IsRefused p octets why.Empty
 empty_is p octets e = record { first = at_empty (eqb (length octets) 0) why.Empty _ (eq-eqb (length octets) 0 e) }
-
--- a number that isn't 0
-pub above : (n : ℕ) → (n ≡ 0 → ⊥) → 0 < n
-above n h = omega (arith, h)
 
 -- octets that fit are as many as needed
 pub exactly : (n have : ℕ) → misfit n have ≡ None → n ≡ have

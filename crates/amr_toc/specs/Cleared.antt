@@ -1,5 +1,5 @@
--- Bits of a layout as they are written anew: RFC 4867, 4.3 and 4.4, lets a receiver ignore the free bits, and has
--- a sender write them 0.
+-- Bits of a layout as they are written anew: RFC 4867, 4.3 and 4.4, lets a receiver ignore the free
+-- bits, and has a sender write them 0.
 use Rattle.std.specs.Prelude.{Bool, false, List, [], ◌∷◌, Some, None}
 use Rattle.amr_bits.specs.Layout.{Mark}
 

@@ -13,7 +13,7 @@ HasTypes es = (k : ℕ) (other : Entry) → k < length es → (slice_index_or es
 abbrev pub headed : Entry → Frame
 headed e = record { ft = e.ft; q = e.q; bits = [] }
 
--- an entry as it is written, 6 or 8 bits wide: F is 1 where more entries follow, and free bits are 0
+-- an entry as it is written, 6 or 8 bits wide: F is 1 where more follow, and free bits are 0
 abbrev pub entry_text : ℕ → Entry → Bool → List Bool
 entry_text width e more = map settled (entry (width - 6) (headed e) more)
 

@@ -6,4 +6,6 @@ use Rattle.spec_payload.specs.declared.refusal.PayloadRefusal.TheVariants as why
 
 -- why octets don't fit, where they are too few or too many
 abbrev pub misfit : ℕ → ℕ → Option PayloadRefusal
-misfit need have = first (when (nat_lt have need) (why.BodyShort need have) ∷ when (nat_lt need have) (why.BodyLong need have) ∷ [])
+misfit need have = first
+    (when (nat_lt have need) (why.BodyShort need have)
+    ∷ when (nat_lt need have) (why.BodyLong need have) ∷ [])

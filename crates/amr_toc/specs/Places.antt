@@ -1,4 +1,4 @@
--- Where the frames of a payload stand in its octets (RFC 4867, 4.3 and 4.4), by the types of its table.
+-- Where the frames of a payload stand in its octets, by its types (RFC 4867, 4.3 and 4.4).
 use Rattle.std.specs.Prelude.{ℕ, ◌+◌, ◌*◌, cond, List, length, map, take, sum}
 use Rattle.std.specs.List.{position_or_len}
 use Rattle.amr_frame.specs.declared.profile.Profile.{Profile}
@@ -12,13 +12,16 @@ sizes_in p fts = map (octets_in p.codec) fts
 
 -- the first bit behind the table and the CRCs
 abbrev pub body_bit : Profile → List ℕ → ℕ
-body_bit p fts = cond p.octet_aligned (8 * (checks_start p fts + checks_count p fts)) (entry_start p (length fts))
+body_bit p fts = cond p.octet_aligned (8 * (checks_start p fts + checks_count p fts))
+    (entry_start p (length fts))
 
 -- how many bits the frames before frame k take up, where they aren't sorted
 abbrev pub bits_to : Profile → List ℕ → ℕ → ℕ
-bits_to p fts k = cond p.octet_aligned (8 * sum (take k (sizes_in p fts))) (sum (map (bits_in p.codec) (take k fts)))
+bits_to p fts k = cond p.octet_aligned (8 * sum (take k (sizes_in p fts)))
+    (sum (map (bits_in p.codec) (take k fts)))
 
 -- the octet of an octet-aligned payload that has octet o of frame k
 abbrev pub octet_place : Profile → List ℕ → ℕ → ℕ → ℕ
 octet_place p fts k o =
-    checks_start p fts + checks_count p fts + position_or_len (is_place o k) (order p.sorting (sizes_in p fts))
+    checks_start p fts + checks_count p fts
+    + position_or_len (is_place o k) (order p.sorting (sizes_in p fts))

@@ -1,5 +1,5 @@
--- A table of contents at the front of bits, entries of 6 bits (RFC 4867, 4.3.2) or 8 bits (4.4.2), by
--- places in the bits. The order in which refusals are tested, P4 to P7, is this project's own.
+-- A table of contents at the front of bits, entries of 6 bits (RFC 4867, 4.3.2) or 8 bits (4.4.2),
+-- by places in the bits. The order in which refusals are tested, P4 to P7, is this project's own.
 use Rattle.std.specs.Prelude.{ℕ, ◌+◌, ◌*◌, ◌%◌, Bool, false, not, ◌||◌, nat_lt, nat_eq, List, [], ◌∷◌, length, map, slice_index_or, Option, is_some, find}
 use Rattle.std.specs.Option.{unwrap_or}
 use Rattle.std.specs.List.{range_with_len}
@@ -19,7 +19,8 @@ abbrev pub type_of : ℕ → List Bool → ℕ → ℕ
 type_of width bits k = number (part (k * width + 1) 4 bits)
 
 abbrev pub entry_of : ℕ → List Bool → ℕ → Entry
-entry_of width bits k = record { ft = type_of width bits k; q = slice_index_or bits (k * width + 5) false }
+entry_of width bits k =
+    record { ft = type_of width bits k; q = slice_index_or bits (k * width + 5) false }
 
 -- what is wrong at entry k: it isn't whole, its type is reserved, or it is one too many
 abbrev pub fault_of : Profile → ℕ → List Bool → ℕ → Option PayloadRefusal
@@ -33,7 +34,8 @@ abbrev pub ends_at : Profile → ℕ → List Bool → ℕ → Bool
 ends_at p width bits k = is_some (fault_of p width bits k) || not (more_of width bits k)
 
 abbrev pub last_of : Profile → ℕ → List Bool → ℕ
-last_of p width bits = unwrap_or (find (ends_at p width bits) (range_with_len 0 (p.max_blocks * p.channels + 1))) 0
+last_of p width bits = unwrap_or
+    (find (ends_at p width bits) (range_with_len 0 (p.max_blocks * p.channels + 1))) 0
 
 -- the first rule that the table breaks: P4 to P7
 abbrev pub table_refusal : Profile → ℕ → List Bool → Option PayloadRefusal

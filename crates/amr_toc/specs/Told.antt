@@ -1,5 +1,5 @@
--- What a reader tells of the octets of a payload (RFC 4867, 4.3 and 4.4). Records, so that a proof about a
--- reader doesn't compute all rules of a payload where it only passes an answer on.
+-- What a reader tells of the octets of a payload (RFC 4867, 4.3 and 4.4). Records, so that a proof
+-- about a reader doesn't compute all rules of a payload where it only passes an answer on.
 use Rattle.std.specs.Prelude.{◌≡◌, ℕ, List, Some, None, Ok}
 use Rattle.amr_frame.specs.declared.profile.Profile.{Profile}
 use Rattle.spec_payload.specs.declared.refusal.PayloadRefusal.{PayloadRefusal}

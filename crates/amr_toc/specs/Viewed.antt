@@ -35,9 +35,12 @@ checks_to frames k = length (filter has_bits (take k frames))
 -- whether frame k has a CRC, and it differs
 abbrev pub is_damaged : PayloadView → ℕ → Bool
 is_damaged view k =
-    let check = slice_index (checks_at view.profile view.octets.now) (checks_to (said view).frames k) in
-    view.profile.crc && (has_bits (frame_in (said view) k) && not (nat_eq check (check_of view.profile (frame_in (said view) k))))
+    let check = slice_index (checks_at view.profile view.octets.now)
+    (checks_to (said view).frames k) in
+    view.profile.crc && (has_bits (frame_in (said view) k)
+    && not (nat_eq check (check_of view.profile (frame_in (said view) k))))
 
 -- octet o of frame k as it stands in an octet-aligned payload, its fill bits too
 abbrev pub standing : PayloadView → ℕ → ℕ → ℕ
-standing view k o = slice_index view.octets.now (octet_place view.profile (types view.profile view.octets.now) k o)
+standing view k o = slice_index view.octets.now
+    (octet_place view.profile (types view.profile view.octets.now) k o)

@@ -13,7 +13,8 @@ use spec_payload::PayloadRefusal;
 #[inline(always)]
 pub fn bits_before(profile: &Profile, toc: &Toc<'_>, at: usize) -> usize
     requires { at ≤ length (listed toc.now) }
-    ensures sum { result ≡ sum (map (bits_in profile.now.codec) (take at (types_of (listed toc.now)))) }
+    ensures sum { result ≡ sum
+        (map (bits_in profile.now.codec) (take at (types_of (listed toc.now)))) }
     ensures most { result ≤ 477 * at }
 {
     let mut bits = 0;
@@ -26,7 +27,8 @@ pub fn bits_before(profile: &Profile, toc: &Toc<'_>, at: usize) -> usize
 /// The number of octets that hold the frames before frame `at`, each filled up to a whole octet.
 pub fn octets_before(profile: &Profile, toc: &Toc<'_>, at: usize) -> usize
     requires { at ≤ length (listed toc.now) }
-    ensures sum { result ≡ sum (take at (map (octets_in profile.now.codec) (types_of (listed toc.now)))) }
+    ensures sum { result ≡ sum
+        (take at (map (octets_in profile.now.codec) (types_of (listed toc.now)))) }
     ensures most { result ≤ 60 * at }
 {
     let mut octets = 0;
@@ -39,7 +41,9 @@ pub fn octets_before(profile: &Profile, toc: &Toc<'_>, at: usize) -> usize
 /// How many of the frames before frame `at` have bits.
 pub(crate) fn filled_before(profile: &Profile, toc: &Toc<'_>, at: usize) -> usize
     requires { at ≤ length (listed toc.now) }
-    ensures count { result ≡ length (filter (λ ft. nat_lt 0 (bits_in profile.now.codec ft)) (take at (types_of (listed toc.now)))) }
+    ensures count { result
+        ≡ length (filter (λ ft. nat_lt 0 (bits_in profile.now.codec ft))
+        (take at (types_of (listed toc.now)))) }
     ensures most { result ≤ at }
 {
     let mut frames = 0;
@@ -64,7 +68,8 @@ pub fn checks_of(profile: &Profile, toc: &Toc<'_>) -> usize
 
 /// The number of octets of each frame, in the order of the table; zeros behind them.
 pub(crate) fn octet_counts(profile: &Profile, toc: &Toc<'_>) -> [u8; 384]
-    ensures { take (length (listed toc.now)) result ≡ map (octets_in profile.now.codec) (types_of (listed toc.now)) }
+    ensures { take (length (listed toc.now)) result
+        ≡ map (octets_in profile.now.codec) (types_of (listed toc.now)) }
 {
     let mut counts = [0; 384];
     for at in 0..toc.len() {

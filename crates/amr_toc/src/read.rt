@@ -23,9 +23,11 @@ pub fn read_toc<'a>(
     requires width { (width ≡ 6) ⊎ (width ≡ 8) }
 
     ensures table { IfOk result (λ toc. listed toc ≡ table_of profile.now width (run bits.entry)) }
-    ensures accepted { IfOk result (λ toc. table_refusal profile.now width (run bits.entry) ≡ None) }
+    ensures accepted { IfOk result
+        (λ toc. table_refusal profile.now width (run bits.entry) ≡ None) }
 
-    ensures refused { IfErr result (λ why. table_refusal profile.now width (run bits.entry) ≡ Some why) }
+    ensures refused { IfErr result
+        (λ why. table_refusal profile.now width (run bits.entry) ≡ Some why) }
 {
     entries_within(profile);
     let width = width as usize;
@@ -54,9 +56,13 @@ fn count_entries(
     ensures whole { IfOk result (λ n. n * width ≤ bits.entry.len) }
     ensures some { IfOk result (λ n. 1 ≤ n) }
     ensures few { IfOk result (λ n. n ≤ 384) }
-    ensures accepted { IfOk result (λ n. fault_of profile.now width (run bits.entry) (last_of profile.now width (run bits.entry)) ≡ None) }
+    ensures accepted { IfOk result
+        (λ n. fault_of profile.now width (run bits.entry)
+        (last_of profile.now width (run bits.entry)) ≡ None) }
 
-    ensures refused { IfErr result (λ why. fault_of profile.now width (run bits.entry) (last_of profile.now width (run bits.entry)) ≡ Some why) }
+    ensures refused { IfErr result
+        (λ why. fault_of profile.now width (run bits.entry)
+        (last_of profile.now width (run bits.entry)) ≡ Some why) }
 {
     let most = profile.max_blocks as usize * profile.channels as usize;
     for at in 0..most + 1 {

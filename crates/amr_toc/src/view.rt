@@ -117,7 +117,8 @@ impl<'a> PayloadView<'a> {
         ensures small { result.ft ≤ 15 }
         ensures ft { result.ft ≡ (frame_in (said self.now) at).ft }
         ensures quality { result.q ≡ (frame_in (said self.now) at).q }
-        ensures size { length (frame_in (said self.now) at).bits ≡ bits_in (format_of self.now).codec result.ft }
+        ensures size { length (frame_in (said self.now) at).bits
+            ≡ bits_in (format_of self.now).codec result.ft }
     {
         self.toc.entry(at)
     }
@@ -148,9 +149,14 @@ impl<'a> PayloadView<'a> {
     pub fn octet(&self, at: usize, octet: usize) -> u8
         requires frame { at < length (viewed self.now).frames }
         requires octet { octet < octets_for (length (frame_in (said self.now) at).bits) }
-        ensures filled { (format_of self.now).octet_aligned ≡ false → result ≡ slice_index (filled (frame_in (said self.now) at).bits) octet }
-        ensures standing { (format_of self.now).octet_aligned ≡ true → result ≡ standing self.now at octet }
-        ensures bits { (format_of self.now).octet_aligned ≡ true → (i : ℕ) → i < 8 → 8 * octet + i < length (frame_in (said self.now) at).bits → nat_eq (result / 2 ^ (7 - i) % 2) 1 ≡ slice_index_or (frame_in (said self.now) at).bits (8 * octet + i) false }
+        ensures filled { (format_of self.now).octet_aligned ≡ false
+            → result ≡ slice_index (filled (frame_in (said self.now) at).bits) octet }
+        ensures standing { (format_of self.now).octet_aligned ≡ true
+            → result ≡ standing self.now at octet }
+        ensures bits { (format_of self.now).octet_aligned ≡ true → (i : ℕ) → i < 8
+            → 8 * octet + i < length (frame_in (said self.now) at).bits
+            → nat_eq (result / 2 ^ (7 - i) % 2) 1
+            ≡ slice_index_or (frame_in (said self.now) at).bits (8 * octet + i) false }
     {
         if !self.profile.octet_aligned {
             return octet_in(self.run_of(at), octet);
@@ -209,7 +215,9 @@ impl<'a> PayloadView<'a> {
     /// How many bits of the body a frame of this type takes up.
     fn room_of(&self, ft: u8) -> usize
         requires { ft ≤ 15 }
-        ensures room { result ≡ cond self.now.profile.octet_aligned (8 * octets_in self.now.profile.codec ft) (bits_in self.now.profile.codec ft) }
+        ensures room { result
+            ≡ cond self.now.profile.octet_aligned (8 * octets_in self.now.profile.codec ft)
+            (bits_in self.now.profile.codec ft) }
         ensures most { result ≤ 480 }
     {
         if self.profile.octet_aligned {
@@ -225,7 +233,8 @@ impl<'a> PayloadView<'a> {
         requires small { entry.ft ≤ 15 }
         requires ft { entry.ft ≡ (frame_in (said self.now) at).ft }
         requires quality { entry.q ≡ (frame_in (said self.now) at).q }
-        requires start { start ≡ self.now.body + bits_to self.now.profile (types_of (listed self.now.toc)) at }
+        requires start { start
+            ≡ self.now.body + bits_to self.now.profile (types_of (listed self.now.toc)) at }
         ensures frame { held result ≡ Some (frame_in (viewed self.now) at) }
         ensures valid { IsCell (format_of self.now).codec result }
     {
@@ -280,7 +289,8 @@ impl<'a> PayloadView<'a> {
         requires frame { at < length (viewed self.now).frames }
         requires checks { self.now.profile.crc ≡ true }
         requires filled { 0 < length (frame_in (said self.now) at).bits }
-        ensures { result ≡ slice_index (checks_at self.now.profile self.now.octets.now) (checks_to (said self.now).frames at) }
+        ensures { result ≡ slice_index (checks_at self.now.profile self.now.octets.now)
+            (checks_to (said self.now).frames at) }
     {
         self.octets[header_octets(&self.profile)
             + self.toc.len()
@@ -304,7 +314,8 @@ impl<'a> PayloadView<'a> {
         requires plain { self.now.profile.sorting ≡ false }
         requires small { ft ≤ 15 }
         requires ft { ft ≡ (frame_in (said self.now) at).ft }
-        requires start { start ≡ self.now.body + bits_to self.now.profile (types_of (listed self.now.toc)) at }
+        requires start { start
+            ≡ self.now.body + bits_to self.now.profile (types_of (listed self.now.toc)) at }
         ensures bits { run result ≡ (frame_in (said self.now) at).bits }
         ensures lent { result.octets.now ≡ self.now.octets.now }
         ensures len { result.len ≡ bits_in self.now.profile.codec (frame_in (said self.now) at).ft }
@@ -319,7 +330,8 @@ impl<'a> PayloadView<'a> {
     /// The first bit of frame `at` in a payload whose octets aren't sorted.
     fn start_of(&self, at: usize) -> usize
         requires { at < length (listed self.now.toc) }
-        ensures { result ≡ self.now.body + bits_to self.now.profile (types_of (listed self.now.toc)) at }
+        ensures { result ≡ self.now.body
+            + bits_to self.now.profile (types_of (listed self.now.toc)) at }
     {
         if self.profile.octet_aligned {
             self.body + 8 * octets_before(&self.profile, &self.toc, at)
@@ -332,7 +344,8 @@ impl<'a> PayloadView<'a> {
     fn gathered(&self, at: usize) -> [u8; 60]
         requires frame { at < length (viewed self.now).frames }
         requires sorted { self.now.profile.sorting ≡ true }
-        ensures { bits_at result 0 (length (frame_in (said self.now) at).bits) ≡ (frame_in (said self.now) at).bits }
+        ensures { bits_at result 0 (length (frame_in (said self.now) at).bits)
+            ≡ (frame_in (said self.now) at).bits }
     {
         let counts = octet_counts(&self.profile, &self.toc);
         let counts = &counts[..self.toc.len()];

@@ -1,31 +1,8 @@
 -- A list of bits has exactly one CRC.
-use Rattle.std.proofs.Common.{◌≡◌, ℕ, zero, suc, ◌+◌, Bool, true, false, cond, List, [], ◌∷◌, ◌++◌, length, take, drop, replicate, sym, refl, ap, ◌∙◌, arith}
+use Rattle.std.proofs.Common.{◌≡◌, ℕ, zero, suc, ◌+◌, Bool, true, false, List, [], ◌∷◌, ◌++◌, length, take, drop, replicate, sym, refl, ap, ◌∙◌, arith}
 use Rattle.std.proofs.lemmas.List.{length-append, take_at, append_cancel_left}
+use Rattle.spec_payload.proofs.Sums.{length-plus, plus_twice, plus_swap, plus-nil, zero-plus, plus_behind, added, length-remainder}
 use Rattle.spec_payload.specs.FrameCrc.{differ, plus, generator, times_generator, IsCrc, remainder, crc_of}
-
--- a bit added twice goes away
-differ_twice : (a b : Bool) → differ (differ a b) b ≡ a
-differ_twice false false = refl
-differ_twice false true = refl
-differ_twice true false = refl
-differ_twice true true = refl
-
--- a polynomial added twice goes away
-plus_twice : (a b : List Bool) → plus (plus a b) b ≡ a
-plus_twice [] b = refl
-plus_twice (x ∷ a) [] = refl
-plus_twice (x ∷ a) (y ∷ b) = λ i. differ_twice x y i ∷ plus_twice a b i
-
--- a sum is as long as its first part
-length-plus : (a b : List Bool) → length (plus a b) ≡ length a
-length-plus [] b = refl
-length-plus (x ∷ a) [] = refl
-length-plus (x ∷ a) (y ∷ b) = ap suc (length-plus a b)
-
--- a product is eight bits longer than the quotient
-length-times : (q : List Bool) → length (times_generator q) ≡ length q + 8
-length-times [] = refl
-length-times (b ∷ q) = omega (arith, length-plus (false ∷ times_generator q) (cond b generator []), length-times q)
 
 -- the front of a sum is the sum of the fronts
 take-plus : (n : ℕ) (a b : List Bool) → take n (plus a b) ≡ plus (take n a) (take n b)
@@ -61,63 +38,17 @@ crc_one a r s h k =
     let same = one_quotient h.quotient k.quotient el front in
     append_cancel_left a r s (h.product ∙ ap times_generator same ∙ sym k.product)
 
--- a bit plus 0
-differ_none : (a : Bool) → differ a false ≡ a
-differ_none false = refl
-differ_none true = refl
-
--- two bits may be added in either order
-differ_swap : (a b c : Bool) → differ (differ a b) c ≡ differ (differ a c) b
-differ_swap false false c = sym (differ_none c)
-differ_swap false true false = refl
-differ_swap false true true = refl
-differ_swap true false false = refl
-differ_swap true false true = refl
-differ_swap true true false = refl
-differ_swap true true true = refl
-
--- two polynomials may be added in either order
-plus_swap : (a b c : List Bool) → plus (plus a b) c ≡ plus (plus a c) b
-plus_swap [] b c = refl
-plus_swap (x ∷ a) [] [] = refl
-plus_swap (x ∷ a) [] (z ∷ c) = refl
-plus_swap (x ∷ a) (y ∷ b) [] = refl
-plus_swap (x ∷ a) (y ∷ b) (z ∷ c) = λ i. differ_swap x y z i ∷ plus_swap a b c i
-
--- a polynomial plus nothing
-plus-nil : (a : List Bool) → plus a [] ≡ a
-plus-nil [] = refl
-plus-nil (x ∷ a) = refl
-
--- zeros plus a polynomial of that length
-zero-plus : (w : List Bool) (n : ℕ) → length w ≡ n → plus (replicate n false) w ≡ w
-zero-plus [] zero l = refl
-zero-plus [] (suc n) l = absurd (omega arith)
-zero-plus (x ∷ w) zero l = absurd (omega arith)
-zero-plus (x ∷ w) (suc n) l = ap {B = List Bool} (λ t. x ∷ t) (zero-plus w n (omega arith))
-
--- a sum behind zeros leaves what stands in front
-plus_behind : (a x y : List Bool) → plus (a ++ x) (replicate (length a) false ++ y) ≡ a ++ plus x y
-plus_behind [] x y = refl
-plus_behind (b ∷ a) x y = λ i. differ_none b i ∷ plus_behind a x y i
-
 -- the quotient that long division finds
 abbrev quotient : ℕ → List Bool → List Bool
 quotient zero w = []
 quotient (suc n) [] = []
-quotient (suc n) (b ∷ w) = b ∷ quotient n (plus w (cond b (drop 1 generator) []))
+quotient (suc n) (b ∷ w) = b ∷ quotient n (plus w (added b))
 
 -- a quotient of n steps has n bits
 length-quotient : (n : ℕ) (w : List Bool) → length w ≡ n + 8 → length (quotient n w) ≡ n
 length-quotient zero w l = refl
 length-quotient (suc n) [] l = absurd (omega arith)
-length-quotient (suc n) (b ∷ w) l = ap suc (length-quotient n (plus w (cond b (drop 1 generator) [])) (omega (arith, length-plus w (cond b (drop 1 generator) []))))
-
--- a remainder has eight bits
-length-remainder : (n : ℕ) (w : List Bool) → length w ≡ n + 8 → length (remainder n w) ≡ 8
-length-remainder zero w l = omega arith
-length-remainder (suc n) [] l = absurd (omega arith)
-length-remainder (suc n) (b ∷ w) l = length-remainder n (plus w (cond b (drop 1 generator) [])) (omega (arith, length-plus w (cond b (drop 1 generator) [])))
+length-quotient (suc n) (b ∷ w) l = ap suc (length-quotient n (plus w (added b)) (omega (arith, length-plus w (added b))))
 
 -- long division is right: product plus remainder is what was divided
 divided : (n : ℕ) (w : List Bool) → length w ≡ n + 8 → plus (times_generator (quotient n w)) (replicate n false ++ remainder n w) ≡ w

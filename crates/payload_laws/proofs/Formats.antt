@@ -1,35 +1,17 @@
--- What a valid format that isn't octet-aligned is.
-use Rattle.std.proofs.Common.{◌≡◌, ℕ, zero, suc, ◌≤◌, Bool, true, false, not, ◌||◌, eqb, ltb, List, ◌∷◌, sym, refl, arith, Option, Some, None}
+-- What a valid format is, bandwidth-efficient or octet-aligned.
+use Rattle.std.proofs.Common.{◌≡◌, ℕ, zero, suc, ◌≤◌, Bool, true, false, not, ◌||◌, eqb, ltb, sym, refl, ◌∙◌, arith, Option, None}
 use Rattle.std.specs.Prelude.{◌&&◌, is_some}
 use Rattle.std.proofs.lemmas.Bool.{eqb-false}
 use Rattle.amr_frame.specs.declared.codec.Codec.{Codec}
 use Rattle.amr_frame.specs.declared.profile.Profile.{Profile}
 use Rattle.amr_frame.specs.declared.profile.ProfileFault.TheVariants as fault
-use Rattle.amr_frame.specs.First.{when, first}
+use Rattle.amr_frame.specs.First.{when}
 use Rattle.amr_frame.specs.Profiles.{IsValid}
-
--- where a list has no first answer its head is none
-pub first_none : {X : Type 0} (o : Option X) (os : List (Option X)) → first (o ∷ os) ≡ None → (o ≡ None) × (first os ≡ None)
-first_none None os e = (refl, e)
-first_none (Some x) os e = absurd cc
-
--- a rule that gives no answer doesn't hold
-pub when_none : {X : Type 0} (b : Bool) (x : X) → when b x ≡ None → b ≡ false
-when_none true x e = absurd cc
-when_none false x e = refl
-
--- where neither of two holds
-pub or_false : (a b : Bool) → (a || b) ≡ false → (a ≡ false) × (b ≡ false)
-or_false true b e = absurd cc
-or_false false b e = (refl, e)
-
--- an answer that isn't there
-pub is_none_of : {X : Type 0} (o : Option X) → is_some o ≡ false → o ≡ None
-is_none_of None e = refl
-is_none_of (Some x) e = absurd cc
+use Rattle.amr_frame.proofs.FirstLemmas.{first_none, when_none, or_false, is_none_of}
 
 -- without alignment nothing that needs it is asked
-no_needs : (a b c d : Bool) → d ≡ false → ((a || b || c) && not d) ≡ false → (a ≡ false) × (b ≡ false) × (c ≡ false)
+no_needs : (a b c d : Bool) → d ≡ false → ((a || b || c) && not d) ≡ false
+    → (a ≡ false) × (b ≡ false) × (c ≡ false)
 no_needs a b c true e f = absurd cc
 no_needs true b c false e f = absurd cc
 no_needs false true c false e f = absurd cc
@@ -80,3 +62,35 @@ plain codec channels most = record { codec = codec; channels = channels; octet_a
 -- such a format is all that a valid one can be
 pub plain_is : (p : Profile) → IsPlain p → plain p.codec p.channels p.max_blocks ≡ p
 plain_is p h = λ i. record { codec = p.codec; channels = p.channels; octet_aligned = sym h.packed i; crc = sym h.crc i; sorting = sym h.sorting i; interleaving = sym h.interleaving i; max_blocks = p.max_blocks }
+
+-- an octet-aligned format by what it leaves open
+abbrev pub aligned : Codec → ℕ → Bool → Bool → Option ℕ → ℕ → Profile
+aligned codec channels crc sorting group most = record { codec = codec; channels = channels; octet_aligned = true; crc = crc; sorting = sorting; interleaving = group; max_blocks = most }
+
+pub aligned_is : (p : Profile) → p.octet_aligned ≡ true
+    → aligned p.codec p.channels p.crc p.sorting p.interleaving p.max_blocks ≡ p
+aligned_is p e = λ i. record { codec = p.codec; channels = p.channels; octet_aligned = sym e i; crc = p.crc; sorting = p.sorting; interleaving = p.interleaving; max_blocks = p.max_blocks }
+
+-- a format is octet-aligned, or it isn't
+pub either_way : {X : Type 0} (p : Profile) → (p.octet_aligned ≡ true → X)
+    → (p.octet_aligned ≡ false → X) → X
+either_way p f g = by_alignment p.octet_aligned f g
+  where
+    by_alignment : {X : Type 0} (z : Bool) → (z ≡ true → X) → (z ≡ false → X) → X
+    by_alignment true f g = f refl
+    by_alignment false f g = g refl
+
+-- CRCs and sorting are of octet-aligned formats alone
+pub record Aligned (p : Profile) : Type 0 where
+  pub crc : p.crc ≡ true → p.octet_aligned ≡ true
+  pub sorting : p.sorting ≡ true → p.octet_aligned ≡ true
+
+pub aligned_of : (p : Profile) → IsValid p → Aligned p
+aligned_of p valid = either_way p
+    (λ is. record { crc = λ x. is; sorting = λ x. is })
+    (λ packed.
+    let h = plain_of p valid packed in
+    record { crc = λ x. absurd (not_both (sym x ∙ h.crc)); sorting = λ x. absurd (not_both (sym x ∙ h.sorting)) })
+  where
+    not_both : true ≡ false → ⊥
+    not_both e = cc

@@ -13,8 +13,8 @@ use Rattle.amr_frame.specs.Tables.{bits_in}
 use Rattle.spec_payload.specs.Grammar.{IsPayload, table, interleaving_octet, octet_at, layout, aligned_layout, packed_layout, checked}
 use Rattle.spec_payload.specs.RobustOrder.{Place, order}
 use Rattle.spec_payload.specs.Values.{Value, FitsGroup, has_bits, octet_counts}
-use Rattle.payload_laws.proofs.Entries.{length-bits_of}
-use Rattle.payload_laws.proofs.Marks.{Both, both_fixed, both_free, one_number}
+use Rattle.amr_bits.proofs.Lists.{length-cond}
+use Rattle.payload_laws.proofs.Marks.{length-bits_of, Both, both_fixed, both_free, one_number}
 use Rattle.payload_laws.proofs.Places.{each_place}
 use Rattle.payload_laws.proofs.SameTables.{AreFrames, SameHeads, frame, value_parts, both_tables}
 use Rattle.payload_laws.proofs.Shapes.{both_pieces, shape_part, bits_from_octets}
@@ -38,11 +38,6 @@ same_size_at codec (f ∷ fs) [] k a b e = absurd e
 same_size_at codec (f ∷ fs) (g ∷ gs) zero a b e = same_size codec f g a.0 b.0 e.0
 same_size_at codec (f ∷ fs) (g ∷ gs) (suc k) a b e = same_size_at codec fs gs k a.1 b.1 e.2
 
--- as many are kept
-kept_alike : (b : Bool) (f g : Frame) (xs ys : List Frame) → length xs ≡ length ys → length (cond b (f ∷ xs) xs) ≡ length (cond b (g ∷ ys) ys)
-kept_alike true f g xs ys e = ap suc e
-kept_alike false f g xs ys e = e
-
 -- frames with the same table have as many CRCs
 same_checked : (codec : Codec) (fs gs : List Frame) → AreFrames codec fs → AreFrames codec gs → SameHeads fs gs → length (filter has_bits fs) ≡ length (filter has_bits gs)
 same_checked codec [] [] a b e = refl
@@ -50,7 +45,7 @@ same_checked codec [] (g ∷ gs) a b e = absurd e
 same_checked codec (f ∷ fs) [] a b e = absurd e
 same_checked codec (f ∷ fs) (g ∷ gs) a b e =
     let h : has_bits f ≡ has_bits g = ap (λ n. ltb 0 n) (same_size codec f g a.0 b.0 e.0) in
-    kept_alike (has_bits f) f g (filter has_bits fs) (filter has_bits gs) (same_checked codec fs gs a.1 b.1 e.2)
+    length-cond (has_bits f) f (filter has_bits fs) g (filter has_bits gs) (same_checked codec fs gs a.1 b.1 e.2)
     ∙ ap (λ z. length (cond z (g ∷ filter has_bits gs) (filter has_bits gs))) h
 
 -- the same for a format

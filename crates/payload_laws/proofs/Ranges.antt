@@ -1,19 +1,20 @@
--- Ranges of numbers: maps over them, the first number that passes a test, and bits of octets.
-use Rattle.std.proofs.Common.{◌≡◌, ℕ, zero, suc, ◌+◌, ◌<◌, ◌≤◌, Bool, true, false, cond, List, [], ◌∷◌, ◌++◌, map, sym, refl, ap, ◌∙◌, arith, Some, inl, inr}
+-- Ranges of numbers: maps over them, and the first number that passes a test.
+use Rattle.std.proofs.Common.{◌≡◌, ℕ, zero, suc, ◌+◌, ◌<◌, ◌≤◌, Bool, true, false, ◌∷◌, map, sym, refl, ap, ◌∙◌, arith, Some, inl, inr}
 use Rattle.std.specs.Prelude.{find, ◌⊎◌}
 use Rattle.std.specs.List.{range_with_len}
 use Rattle.std.proofs.lemmas.Bool.Decides.{eqb_tells}
-use Rattle.amr_bits.specs.Bits.{nat, number, bit_at, bits_at}
 
 -- maps over two ranges of the same length
-pub map_moved : {X : Type 0} (f g : ℕ → X) (a b n : ℕ) → ((k : ℕ) → f (a + k) ≡ g (b + k)) → map f (range_with_len a n) ≡ map g (range_with_len b n)
+pub map_moved : {X : Type 0} (f g : ℕ → X) (a b n : ℕ) → ((k : ℕ) → f (a + k) ≡ g (b + k))
+    → map f (range_with_len a n) ≡ map g (range_with_len b n)
 map_moved f g a b zero h = refl
 map_moved f g a b (suc n) h =
     let e : f a ≡ g b = ap f (omega arith) ∙ h 0 ∙ ap g (omega arith) in
     λ i. e i ∷ map_moved f g (a + 1) (b + 1) n (λ k. ap f (omega arith) ∙ h (k + 1) ∙ ap g (omega arith)) i
 
 -- the first number that passes is found
-pub find_from : (q : ℕ → Bool) (a l k : ℕ) → a ≤ k → k < a + l → ((j : ℕ) → a ≤ j → j < k → q j ≡ false) → q k ≡ true → find q (range_with_len a l) ≡ Some k
+pub find_from : (q : ℕ → Bool) (a l k : ℕ) → a ≤ k → k < a + l
+    → ((j : ℕ) → a ≤ j → j < k → q j ≡ false) → q k ≡ true → find q (range_with_len a l) ≡ Some k
 find_from q a zero k low high none hit = absurd (omega arith)
 find_from q a (suc l) k low high none hit =
     elim (eqb_tells a k) [
@@ -47,40 +48,6 @@ first_of_range q a (suc l) k low high hit =
     after_first : (q : ℕ → Bool) (a k : ℕ) → a ≤ k → q k ≡ true → q a ≡ false → a + 1 ≤ k
     after_first q a k le e f = elim (eqb_tells a k) [ inl t ↦ absurd (let x : true ≡ false = sym e ∙ ap q (sym t.1) ∙ f in cc) | inr t ↦ omega (arith, t.1) ]
 
-    below_first : (q : ℕ → Bool) (a i at : ℕ) → a ≤ i → i < at → q a ≡ false → ((j : ℕ) → a + 1 ≤ j → j < at → q j ≡ false) → q i ≡ false
+    below_first : (q : ℕ → Bool) (a i at : ℕ) → a ≤ i → i < at → q a ≡ false
+        → ((j : ℕ) → a + 1 ≤ j → j < at → q j ≡ false) → q i ≡ false
     below_first q a i at x y f h = elim (eqb_tells a i) [ inl t ↦ ap q (sym t.1) ∙ f | inr t ↦ h i (omega (arith, t.1)) y ]
-
--- four bits are those of their number
-pub four_bits : (a b c d : Bool) → nat 4 (number (a ∷ b ∷ c ∷ d ∷ [])) ≡ a ∷ b ∷ c ∷ d ∷ []
-four_bits true true true true = refl
-four_bits true true true false = refl
-four_bits true true false true = refl
-four_bits true true false false = refl
-four_bits true false true true = refl
-four_bits true false true false = refl
-four_bits true false false true = refl
-four_bits true false false false = refl
-four_bits false true true true = refl
-four_bits false true true false = refl
-four_bits false true false true = refl
-four_bits false true false false = refl
-four_bits false false true true = refl
-four_bits false false true false = refl
-four_bits false false false true = refl
-four_bits false false false false = refl
-
--- four bits spell a number below 16
-pub four_below : (a b c d : Bool) → number (a ∷ b ∷ c ∷ d ∷ []) < 16
-four_below a b c d = omega (arith, bit_below a, bit_below b, bit_below c, bit_below d)
-  where
-    bit_below : (b : Bool) → cond b 1 0 ≤ 1
-    bit_below true = omega arith
-    bit_below false = omega arith
-
--- bits from a place on, and those behind them
-pub bits_join : (octets : List ℕ) (s m n : ℕ) → bits_at octets s m ++ bits_at octets (s + m) n ≡ bits_at octets s (m + n)
-bits_join octets s zero n = ap (λ z. bits_at octets z n) (omega arith) ∙ ap (bits_at octets s) (omega arith)
-bits_join octets s (suc m) n =
-    let e : s + suc m ≡ s + 1 + m = omega arith in
-    let f : suc (m + n) ≡ suc m + n = omega arith in
-    ap (λ z. bits_at octets s (suc m) ++ bits_at octets z n) e ∙ ap {B = List Bool} (λ t. bit_at octets s ∷ t) (bits_join octets (s + 1) m n) ∙ ap (bits_at octets s) f

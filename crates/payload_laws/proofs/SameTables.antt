@@ -7,6 +7,7 @@ use Rattle.amr_bits.specs.Layout.{Mark, fixed, free}
 use Rattle.amr_frame.specs.Frames.{Frame, IsFrame}
 use Rattle.spec_payload.specs.Grammar.{table, entry}
 use Rattle.spec_payload.specs.Values.{Value}
+use Rattle.payload_laws.proofs.Entries.{entry_bits}
 use Rattle.payload_laws.proofs.Marks.{Both, both_fixed, both_free, one_number}
 
 -- frames of a codec
@@ -19,10 +20,6 @@ SameHeads [] [] = Unit {0}
 SameHeads [] (g ∷ gs) = ⊥
 SameHeads (f ∷ fs) [] = ⊥
 SameHeads (f ∷ fs) (g ∷ gs) = (f.ft ≡ g.ft) × (f.q ≡ g.q) × SameHeads fs gs
-
--- the fixed bits of an entry
-abbrev entry_bits : Frame → Bool → List Bool
-entry_bits f more = more ∷ nat 4 f.ft ++ f.q ∷ []
 
 -- two entries that the same bits have are equal, and so have the places behind them the same bits
 both_entries : (codec : Codec) (gap : ℕ) (f g : Frame) (x y : Bool) (m n : List Mark) → IsFrame codec f → IsFrame codec g → Both (entry gap f x ++ m) (entry gap g y ++ n) → (x ≡ y) × (f.ft ≡ g.ft) × (f.q ≡ g.q) × Both m n

@@ -8,6 +8,8 @@ ghost use Rattle.spec_payload.specs.Values.{Value};
 /// with and without CRCs, sorting and interleaving: octets have at most one value and at most one list
 /// of CRCs.
 pub fn has_one_value()
-    ensures value { (p : Profile) (v w : Value) (checks others octets : List ℕ) → IsValid p → IsPayload p v checks octets → IsPayload p w others octets → v ≡ w }
-    ensures checks { (p : Profile) (v w : Value) (checks others octets : List ℕ) → IsValid p → IsPayload p v checks octets → IsPayload p w others octets → checks ≡ others }
+    ensures value { (p : Profile) (v w : Value) (checks others octets : List ℕ) → IsValid p
+        → IsPayload p v checks octets → IsPayload p w others octets → v ≡ w }
+    ensures checks { (p : Profile) (v w : Value) (checks others octets : List ℕ) → IsValid p
+        → IsPayload p v checks octets → IsPayload p w others octets → checks ≡ others }
 {}

@@ -1,7 +1,7 @@
 -- What was read, written again.
-use Rattle.std.proofs.Common.{◌≡◌, ℕ, List, length, sym, ap, ◌∙◌, subst, Option, Some, None, inl, inr, ◌⊎◌}
+use Rattle.std.proofs.Common.{◌≡◌, ℕ, List, length, sym, ap, ◌∙◌, subst, Option, Some, None, inl, inr}
 use Rattle.std.specs.Prelude.{IsSome}
-use Rattle.aligned_laws.proofs.EachFormat.{either}
+use Rattle.payload_laws.proofs.EachFormat.{either}
 use Rattle.amr_bits.specs.Bits.{AreOctets, bits_of}
 use Rattle.amr_frame.specs.Profiles.{IsValid}
 use Rattle.amr_frame.specs.declared.profile.Profile.{Profile}

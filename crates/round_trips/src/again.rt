@@ -12,9 +12,13 @@ ghost use Rattle.spec_payload.specs.Values.{IsValue};
 /// What is read of octets in any valid format can be written, and where none of its frames is damaged this gives as many
 /// octets, the same but for the free bits, which are 0 (RFC 4867, 4.3 and 4.4).
 pub fn writes_what_was_read()
-    ensures carried { (p : Profile) (octets : List ℕ) → IsValid p → AreOctets octets → IsAccepted p octets → IsValue p (value_at p octets) }
-    ensures size { (p : Profile) (octets : List ℕ) → IsValid p → AreOctets octets → IsAccepted p octets → IsUndamaged p octets
+    ensures carried { (p : Profile) (octets : List ℕ) → IsValid p → AreOctets octets
+        → IsAccepted p octets → IsValue p (value_at p octets) }
+    ensures size { (p : Profile) (octets : List ℕ) → IsValid p → AreOctets octets
+        → IsAccepted p octets → IsUndamaged p octets
         → length (text p (value_at p octets)) ≡ length octets }
-    ensures bits { (p : Profile) (octets : List ℕ) → IsValid p → AreOctets octets → IsAccepted p octets → IsUndamaged p octets
-        → bits_of (text p (value_at p octets)) ≡ cleared (layout p (value_at p octets) (checks_at p octets)) (bits_of octets) }
+    ensures bits { (p : Profile) (octets : List ℕ) → IsValid p → AreOctets octets
+        → IsAccepted p octets → IsUndamaged p octets
+        → bits_of (text p (value_at p octets))
+        ≡ cleared (layout p (value_at p octets) (checks_at p octets)) (bits_of octets) }
 {}

@@ -2,7 +2,8 @@ use Rattle.std.proofs.Common.{◌≡◌, ◌<◌, None, length, ap, sym, refl, �
 use Rattle.std.proofs.lemmas.Bool.{eqb-true, eqb-false}
 use Rattle.amr_bits.specs.Bits.{bits_at}
 use Rattle.amr_be.proofs.Rules.{rules}
-use Rattle.amr_toc.proofs.Telling.{empty_is, above, exactly}
+use Rattle.amr_toc.proofs.Telling.{empty_is, exactly}
+use Rattle.payload_laws.proofs.Rules.{above}
 use Rattle.amr_toc.specs.Fitting.{misfit}
 use Rattle.amr_toc.specs.Lists.{listed, toc_at}
 use Rattle.amr_toc.specs.Table.{table_of, table_refusal}

@@ -2,7 +2,8 @@ use Rattle.std.proofs.Common.{◌≡◌, ◌*◌, ◌+◌, false, true, ap, sym,
 use borrow.Author.Count.{below_more}
 use Rattle.amr_bits.specs.Runs.{run}
 use Rattle.amr_toc.specs.Table.{ends_at, fault_of, more_of}
-use Rattle.amr_toc.proofs.Ends.{last_is, fault_ends, zero_ends, goes_on, ends_at_most}
+use Rattle.amr_toc.proofs.Ends.{last_is, fault_ends, ends_at_most}
+use Rattle.payload_laws.proofs.Rules.{going, stopped}
 use Rattle.amr_toc.proofs.read.count_entries.Goals as goal
 
 pub returns-in-Some-clause-refused : goal.returns-in-Some-clause-refused
@@ -20,7 +21,7 @@ returns-then-not-bit-clause-count c =
     let w = c.args.width in
     let bits = run c.args.bits in
     let k = c.loop-at.at in
-    ap (λ n. n + 1) (sym (last_is p w bits k c.loop-at-test.true c.loop-at.invariant (zero_ends (fault_of p w bits k) (more_of w bits k) (c.bit.ensures.bits ∙ c.if-not-bit.true))))
+    ap (λ n. n + 1) (sym (last_is p w bits k c.loop-at-test.true c.loop-at.invariant (stopped (fault_of p w bits k) (more_of w bits k) (c.bit.ensures.bits ∙ c.if-not-bit.true))))
 
 pub returns-then-not-bit-clause-few : goal.returns-then-not-bit-clause-few
 returns-then-not-bit-clause-few c =
@@ -35,7 +36,7 @@ returns-then-not-bit-clause-accepted c =
     let w = c.args.width in
     let bits = run c.args.bits in
     let k = c.loop-at.at in
-    ap (fault_of p w bits) (last_is p w bits k c.loop-at-test.true c.loop-at.invariant (zero_ends (fault_of p w bits k) (more_of w bits k) (c.bit.ensures.bits ∙ c.if-not-bit.true))) ∙ sym c.fault_at.ensures.fault ∙ c.in_default.is
+    ap (fault_of p w bits) (last_is p w bits k c.loop-at-test.true c.loop-at.invariant (stopped (fault_of p w bits k) (more_of w bits k) (c.bit.ensures.bits ∙ c.if-not-bit.true))) ∙ sym c.fault_at.ensures.fault ∙ c.in_default.is
 
 pub loop-at-preserved : goal.loop-at-preserved
 loop-at-preserved c =
@@ -43,7 +44,7 @@ loop-at-preserved c =
     let w = c.args.width in
     let bits = run c.args.bits in
     let k = c.loop-at.at in
-    below_more (λ j. ends_at p w bits j ≡ false) k c.loop-at.invariant (goes_on (fault_of p w bits k) (more_of w bits k) (sym c.fault_at.ensures.fault ∙ c.in_default.is) (c.bit.ensures.bits ∙ c.if-not-bit.false))
+    below_more (λ j. ends_at p w bits j ≡ false) k c.loop-at.invariant (going (fault_of p w bits k) (more_of w bits k) (sym c.fault_at.ensures.fault ∙ c.in_default.is) (c.bit.ensures.bits ∙ c.if-not-bit.false))
 
 pub unreachable-requires : goal.unreachable-requires
 unreachable-requires c =

@@ -1,7 +1,7 @@
 use Rattle.std.proofs.Common.{◌<◌, length, get_or, ap, sym, ◌∙◌, subst, arith}
 use Rattle.amr_toc.specs.Lists.{listed}
 use Rattle.amr_toc.proofs.Sizes.{listed_count}
-use Rattle.amr_toc.proofs.Accepted.{aligned_of}
+use Rattle.payload_laws.proofs.Formats.{aligned_of}
 use Rattle.amr_toc.proofs.CheckPlaces.{check_stands, check_place}
 use Rattle.amr_toc.proofs.Shown.{in_table, in_entries, length_bits}
 use Rattle.amr_toc.proofs.view.PayloadView.check_sent.Goals as goal

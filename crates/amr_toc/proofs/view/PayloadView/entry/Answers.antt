@@ -3,7 +3,8 @@ use Rattle.amr_frame.specs.Frames.{Frame}
 use Rattle.amr_frame.specs.Tables.{bits_in}
 use Rattle.amr_toc.specs.declared.entry.Entry.{Entry}
 use Rattle.amr_toc.specs.Lists.{listed}
-use Rattle.amr_toc.proofs.Shown.{in_table, in_entries, entry_is, frame_is, ft_is, length_bits, type_is}
+use Rattle.amr_toc.proofs.Shown.{in_table, in_entries, entry_is, frame_is, ft_is, length_bits}
+use Rattle.payload_laws.proofs.Valued.{type_is}
 use Rattle.amr_toc.proofs.view.PayloadView.entry.Goals as goal
 
 pub entry-requires : goal.entry-requires

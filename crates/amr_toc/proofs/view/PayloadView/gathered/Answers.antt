@@ -4,7 +4,7 @@ use Rattle.amr_bits.specs.Bits.{bits_at}
 use Rattle.spec_payload.specs.Reading.{types}
 use Rattle.amr_toc.specs.Lists.{listed}
 use Rattle.amr_toc.specs.Viewed.{standing}
-use Rattle.amr_toc.proofs.Accepted.{aligned_of}
+use Rattle.payload_laws.proofs.Formats.{aligned_of}
 use Rattle.amr_toc.proofs.Shown.{in_table, in_entries, length_bits}
 use Rattle.amr_toc.proofs.Sizes.{most_octets, set_more}
 use Rattle.amr_toc.proofs.Standing.{count_at, gathered_bits}

@@ -6,7 +6,7 @@ use Rattle.amr_toc.specs.declared.entry.Entry.{Entry}
 use Rattle.std.specs.List.{All}
 use Rattle.std.specs.Prelude.{◌≤◌}
 use Rattle.amr_toc.specs.Lists.{listed, types_of}
-use Rattle.amr_toc.proofs.Accepted.{aligned_of}
+use Rattle.payload_laws.proofs.Formats.{aligned_of}
 use Rattle.amr_toc.proofs.Sizes.{sizes_short, listed_count}
 use Rattle.amr_toc.proofs.Standing.{octet_sorted}
 use Rattle.amr_toc.proofs.view.PayloadView.sorted_octet.Goals as goal

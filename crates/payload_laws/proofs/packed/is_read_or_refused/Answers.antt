@@ -1,5 +1,0 @@
-use Rattle.payload_laws.proofs.Seeing.{either, not_both}
-use Rattle.payload_laws.proofs.packed.is_read_or_refused.Goals as goal
-
-pub returns : goal.returns
-returns c = record { either = either; never_both = not_both }
