@@ -22,8 +22,8 @@ abbrev pub line_without_words : ErrorKind → List ℕ
 line_without_words kind.OutOfMemory = end_line end.OutOfMemory
 line_without_words _ = usage_line
 
--- the program didn't run, since its words couldn't be had: nothing was read or put out, the notes got the line of that,
--- and the program ends with the number of its status
+-- the program didn't run, since its words couldn't be had: nothing was read or put out, the notes
+-- got the line of that, and the program ends with the number of its status
 pub record NotRun {A B : Type 0} (why : ErrorKind) (input input' : A) (output output' : B)
     (notes : Flow) (code : ℕ) : Type 0 where
   pub reads : input' ≡ input

@@ -34,15 +34,16 @@ run_of i o n input input' output output' notes notes' status = record {
 abbrev pub engine_of : Run → RunReport → Work
 engine_of r report = record { input = r.input; output = r.output; report = report }
 
--- the whole of a run: its engine did what the job means, the notes tell its report, and the status is that of its end
+-- the whole of a run: its engine did what the job means, the notes tell its report, and the status
+-- is that of its end
 pub record Ran (m : Meaning) (r : Run) : Type 0 where
   pub report : RunReport
   pub worked : Works m (engine_of r report)
   pub noted : Noted r.notes (notes_of m.lines report)
   pub ended : EndsAs report.end r.notes r.status
 
--- where the input is told and neither it nor the output failed: want of memory, or just what the input means and the
--- status of its end
+-- where the input is told and neither it nor the output failed: want of memory, or just what the
+-- input means and the status of its end
 pub record PutsOut (m : Meaning) (r : Run) : Type 0 where
   pub put : (all : List ℕ) → r.input.told ≡ Some all
       → (Failed r.input → ⊥) → (Failed r.output → ⊥)
@@ -54,7 +55,8 @@ pub record StopsReading (m : Meaning) (r : Run) : Type 0 where
   pub failed : Failed r.input
   pub broke : BrokeReading m r.input r.output
 
--- all but the notes was done: where the input is told, it means that all is done, and just what it means was put out
+-- all but the notes was done: where the input is told, it means that all is done, and just what it
+-- means was put out
 pub record DoneButNotes (m : Meaning) (r : Run) : Type 0 where
   pub failed : Failed r.notes
   pub reads : Calm r.input
@@ -71,7 +73,8 @@ pub record Notes (m : Meaning) (r : Run) : Type 0 where
   pub whole : (all : List ℕ) → r.input.told ≡ Some all → (Failed r.notes → ⊥)
       → Appends r.notes.told r.notes.told' (notes_at m all r.status)
 
--- whether they failed or not: a front of the notes; of the lines alone where only the notes made a write fault of it
+-- whether they failed or not: a front of the notes; of the lines alone where only the notes made a
+-- write fault of it
 pub record NotesPart (m : Meaning) (r : Run) : Type 0 where
   pub part : (all : List ℕ) → r.input.told ≡ Some all
       → AppendsFront r.notes.told r.notes.told' (notes_at m all r.status)

@@ -38,4 +38,5 @@ but_notes status.LimitReached = status.LimitReached
 -- the status by the end and by whether the notes failed
 abbrev pub EndsAs : RunEnd → Flow → Status → Type 0
 EndsAs end notes result =
-    (Calm notes × (result ≡ status_for end)) ⊎ (Failed notes × (result ≡ but_notes (status_for end)))
+    (Calm notes × (result ≡ status_for end))
+    ⊎ (Failed notes × (result ≡ but_notes (status_for end)))

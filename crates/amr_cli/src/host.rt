@@ -29,7 +29,8 @@ pub fn run_started<I: Source, O: Sink, E: Sink>(
     output: &mut O,
     notes: &mut E,
 ) -> ExitCode
-    ensures refused { IfErr args (λ e. NotRun (error_kind e) input.old input.new output.old output.new
+    ensures refused { IfErr args (λ e.
+        NotRun (error_kind e) input.old input.new output.old output.new
         (written_to E.Sink notes.old notes.new) (exit_status result)) }
     ensures ran { IfOk args (λ a.
         NotRun OutOfMemory input.old input.new output.old output.new
@@ -45,7 +46,8 @@ pub fn run_started<I: Source, O: Sink, E: Sink>(
 
 /// The words of the command line: those behind the program's name.
 fn words_of(alloc: Global, args: io::Result<Args>) -> Result<Vec<String>, io::ErrorKind>
-    ensures words { IfOk args (λ a. IfOk result (λ words. words.items ≡ drop 1 (into_iter_items a))) }
+    ensures words { IfOk args (λ a.
+        IfOk result (λ words. words.items ≡ drop 1 (into_iter_items a))) }
     ensures memory { IfOk args (λ _. IfErr result (λ why. why ≡ OutOfMemory)) }
     ensures refused { IfErr args (λ e. result ≡ Err (error_kind e)) }
 {

@@ -31,7 +31,8 @@ pub fn run_gateway<I: Source, O: Sink, E: Sink>(
 ) -> Status
     // The status is `Usage` exactly where the words give no job; nothing is then read and nothing put out.
     ensures usage { (job_of (texts words.now) ≡ None) ↔ (result ≡ Status.Usage) }
-    ensures usage_leaves { result ≡ Status.Usage → (input.new ≡ input.old) × (output.new ≡ output.old)
+    ensures usage_leaves { result ≡ Status.Usage
+        → (input.new ≡ input.old) × (output.new ≡ output.old)
         × Noted (written_to E.Sink notes.old notes.new) usage_line }
 
     // Output and end, where the input tells its octets and neither it nor the output failed; what is left of the input.
@@ -44,13 +45,15 @@ pub fn run_gateway<I: Source, O: Sink, E: Sink>(
     ensures read_fault { result ≡ Status.ReadFault → Asked (texts words.now) (λ m. StopsReading m
         (run_of I.Source O.Sink E.Sink
         input.old input.new output.old output.new notes.old notes.new result)) }
-    ensures read_fault_always { I.faults input.old < I.faults input.new → result ≡ Status.ReadFault }
+    ensures read_fault_always { I.faults input.old < I.faults input.new
+        → result ≡ Status.ReadFault }
 
     // A fault of the output, or of the notes where all else was done.
     ensures write_fault { result ≡ Status.WriteFault → Asked (texts words.now) (λ m. StopsWriting m
         (run_of I.Source O.Sink E.Sink
         input.old input.new output.old output.new notes.old notes.new result)) }
-    ensures write_fault_always { O.faults output.old < O.faults output.new → result ≡ Status.WriteFault }
+    ensures write_fault_always { O.faults output.old < O.faults output.new
+        → result ≡ Status.WriteFault }
     ensures notes_fault { E.faults notes.old < E.faults notes.new → result ≢ Status.Done }
 
     // Want of memory.

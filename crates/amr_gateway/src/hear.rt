@@ -112,7 +112,8 @@ pub fn end_session<O: Sink>(
 ) -> Result<(), Failed>
     requires served { IsServed job.now }
     requires plan { receiver.old.plan ≡ job.now.plan }
-    requires ready { (receiver.old.spent ≡ false) × (n : ℕ) × (n ≤ 2 ^ 40) × IsBounded n receiver.old }
+    requires ready { (receiver.old.spent ≡ false)
+        × (n : ℕ) × (n ≤ 2 ^ 40) × IsBounded n receiver.old }
 
     ensures ended { OnOk result (EndsSession job.now receiver.old receiver.new
         (O.got output.old) (O.got output.new)) }

@@ -4,9 +4,7 @@
 mod laws;
 mod order;
 
-pub use laws::{
-    better_is_the_greater, orders_by_quality, the_same_frames_have_the_same_best,
-};
+pub use laws::{better_is_the_greater, orders_by_quality, the_same_frames_have_the_same_best};
 pub use order::{compare, keep_better};
 
 #[cfg(test)]

@@ -24,12 +24,14 @@ record_of given =
 
 -- what a command with these options asks
 abbrev pub asked_of : List ℕ → List Pair → Option Command
-asked_of command given = cond (bytes_eq command record_name) (option_map Record (record_of given)) None
+asked_of command given =
+    cond (bytes_eq command record_name) (option_map Record (record_of given)) None
 
 -- what the words ask, the first being the command
 abbrev pub command_of : List (List ℕ) → Option Command
 command_of [] = None
-command_of (command ∷ words) = cond (are_options command words) (asked_of command (pairs words)) None
+command_of (command ∷ words) =
+    cond (are_options command words) (asked_of command (pairs words)) None
 
 -- each value is in the range of its option
 abbrev pub AreWithin : RecordWords → Type 0

@@ -58,7 +58,8 @@ is_of command r = list_any (λ name. bytes_eq name command) r.commands
 
 -- a command may have an option with a value, by a row
 abbrev pub allows : List ℕ → List ℕ → List ℕ → Row → Bool
-allows command option value r = bytes_eq r.option option && is_of command r && is_among r.values value
+allows command option value r =
+    bytes_eq r.option option && is_of command r && is_among r.values value
 
 -- the same by one of the rows
 abbrev pub is_allowed : List ℕ → List ℕ → List ℕ → Bool

@@ -18,7 +18,8 @@ number_of text = cond (is_number text) (Some (digits_value 10 text)) None
 -- the codec that a name stands for
 abbrev pub codec_named : List ℕ → Option Codec
 codec_named text =
-    cond (bytes_eq text (codes "AMR")) (Some Amr) (cond (bytes_eq text (codes "AMR-WB")) (Some AmrWb) None)
+    cond (bytes_eq text (codes "AMR")) (Some Amr)
+    (cond (bytes_eq text (codes "AMR-WB")) (Some AmrWb) None)
 
 -- a number, if it is from the least to the greatest
 abbrev pub between : ℕ → ℕ → ℕ → Option ℕ
@@ -27,7 +28,8 @@ between least greatest n = cond (nat_le least n && nat_le n greatest) (Some n) N
 -- the number that a text stands for, if it is one of the values
 abbrev pub number_among : Values → List ℕ → Option ℕ
 number_among Codecs text = None
-number_among (Numbers least greatest) text = option_and_then (between least greatest) (number_of text)
+number_among (Numbers least greatest) text =
+    option_and_then (between least greatest) (number_of text)
 
 -- a text is one of the values
 abbrev pub is_among : Values → List ℕ → Bool

@@ -30,7 +30,7 @@ finished_works job limit w hs rest extra t ok put counts faults = record {
       record {
         end = said.ends;
         out = subst (λ l. Appends w.output.told w.output.told' (job.whole l))
-          (sym said.records) put;
+            (sym said.records) put;
         counts = counts ∙ ap job.counts (sym said.records);
       };
   leaves = record {

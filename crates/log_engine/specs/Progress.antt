@@ -20,7 +20,8 @@ pub record Wrote (output : Flow) (octets : List ℕ) : Type 0 where
   pub put : Appends output.told output.told' out
   pub begins : IsPrefix octets out
 
--- `done` and `last` were handled; all that belongs to `done` is written, and `last` and the rest were held at the last read
+-- `done` and `last` were handled; all that belongs to `done` is written, and `last` and the rest
+-- were held at the last read
 pub record Progress (job : RecordsJob) (limit : ℕ) (input output : Flow) (waiting rest : List ℕ)
     (done last : List (List ℕ)) : Type 0 where
   pub took : Took limit input (done ++ last) rest []
@@ -39,7 +40,8 @@ pub record Underway {H A B : Type 0} (h : handler.Ghosts H) (s : source.Ghosts A
       now.sink.gather.now.waiting (rest now.reader) done last
   pub size : length (log_of (done ++ last) ++ rest now.reader) ≡ taken_of now.reader
 
--- a run that began at the first state stopped at the second, where no record came: all is written that is early
+-- a run that began at the first state stopped at the second, where no record came: all is written
+-- that is early
 pub record Halted {H A B : Type 0} (h : handler.Ghosts H) (s : source.Ghosts A)
     (k : sink.Ghosts B) (first now : State H A B) (how : RunEnd) : Type 0 where
   pub packets : List (List ℕ)

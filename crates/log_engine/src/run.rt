@@ -70,9 +70,7 @@ pub fn run_records<I: Source, O: Sink, H: RecordHandler>(
         (record { end = result; counts = H.counts handler.new })) }
     ensures never_memory { result ≢ RunEnd.OutOfMemory }
     ensures job { H.job handler.new ≡ H.job handler.old }
-    ensures beside { O.beside sink.new.output.now ≡ O.beside sink.old.output.now }
-    ensures same { O.same sink.old.output.now sink.new.output.now }
-    ensures same_reference { sink.new.output.ghost_name ≡ sink.old.output.ghost_name }
+    ensures same { SameSink O.Sink sink.old sink.new }
 {
     match handle_all(handler, reader, input, sink) {
         RunEnd::ReadFault => RunEnd::ReadFault,

@@ -2,7 +2,8 @@
 use Rattle.run_report.specs.declared.end.RunEnd.{RunEnd}
 use Rattle.run_report.specs.declared.end.RunEnd.TheVariants as end
 
--- the input was worked off, as far as the limit allows: no read and no write failed, and memory was found
+-- the input was worked off, as far as the limit allows: no read and no write failed, and memory was
+-- found
 abbrev pub IsFinished : RunEnd → Type 0
 IsFinished end.Done = Unit {0}
 IsFinished (end.LogCut have) = Unit {0}

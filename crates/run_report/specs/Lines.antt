@@ -1,4 +1,5 @@
--- The texts of the notes of a run: lines of its counts, and a last line for how it ended. They are ours.
+-- The texts of the notes of a run: lines of its counts, and a last line for how it ended. They are
+-- ours.
 use Rattle.std.specs.Prelude.{ℕ, List, [], ◌++◌, codes, decimal}
 use Rattle.run_report.specs.declared.counts.Counts.{Counts}
 use Rattle.run_report.specs.declared.end.RunEnd.{RunEnd}

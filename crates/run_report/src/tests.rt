@@ -103,7 +103,7 @@ fn words_that_give_no_job_have_their_line(rt: HostRuntime) -> Result<(), Fail> {
     assert_eq!(rt; write_usage(&mut notes), Ok(()));
     assert_eq!(rt;
         notes.octets(),
-        b"usage: record, stream, convert, list, answer or trial, then pairs of an option and its value\n"
+        b"usage: record, stream, convert, list, answer or trial, then pairs of an option and its value\n".as_slice()
     );
     Ok(())
 }

@@ -6,7 +6,8 @@ use Rattle.amr_io.specs.declared.source.Source as source
 use Rattle.run_report.specs.declared.end.RunEnd.{RunEnd}
 use Rattle.run_report.specs.declared.end.RunEnd.TheVariants as end
 
--- the octets that are told, left in a source or got by a sink, and the count of faults; before, and after
+-- the octets that are told, left in a source or got by a sink, and the count of faults; before, and
+-- after
 pub record Flow : Type 0 where
   pub told : Option (List ℕ)
   pub told' : Option (List ℕ)

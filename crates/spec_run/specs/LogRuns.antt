@@ -19,12 +19,14 @@ abbrev pub rest_end : List ℕ → RunEnd
 rest_end [] = Done
 rest_end (o ∷ rest) = LogCut (length (o ∷ rest))
 
--- the first that holds: the input is longer than the limit, the log is cut inside a record, or all was read
+-- the first that holds: the input is longer than the limit, the log is cut inside a record, or all
+-- was read
 abbrev pub log_end : ℕ → List ℕ → RunEnd
-log_end limit input = cond (nat_lt limit (length input)) LimitReached (rest_end (rest_of limit input))
+log_end limit input =
+    cond (nat_lt limit (length input)) LimitReached (rest_end (rest_of limit input))
 
--- what a job does with records: what is out once it had these, what is put out in all where the log has these, what it
--- counts of them, and which lines of its counts it notes
+-- what a job does with records: what is out once it had these, what is put out in all where the log
+-- has these, what it counts of them, and which lines of its counts it notes
 pub record RecordsJob : Type 0 where
   pub early : List (List ℕ) → List ℕ
   pub whole : List (List ℕ) → List ℕ

@@ -17,7 +17,8 @@ pub record Meaning : Type 0 where
   pub limit : ℕ
   -- what is put out
   pub out : List ℕ → List ℕ
-  -- what of it is out, and no more, where a read fails once these octets were read, if that is promised
+  -- what of it is out, and no more, where a read fails once these octets were read, if that is
+  -- promised
   pub early : Option (List ℕ → List ℕ)
   -- how it ends, and what it counts
   pub end : List ℕ → RunEnd
@@ -27,7 +28,8 @@ pub record Meaning : Type 0 where
   -- whether it reads at all, and whether it may have read before it finds no memory
   pub reads : Bool
   pub reads_first : Bool
-  -- by how many of the octets read what is put out may lag behind where a write fails, if that is promised
+  -- by how many of the octets read what is put out may lag behind where a write fails, if that is
+  -- promised
   pub lag : Option ℕ
 
 -- what an engine did to its input and its output, and what it reports
@@ -36,7 +38,8 @@ pub record Work : Type 0 where
   pub output : Flow
   pub report : RunReport
 
-abbrev pub work_of : {A B : Type 0} → source.Ghosts A → sink.Ghosts B → A → A → B → B → RunReport → Work
+abbrev pub work_of : {A B : Type 0} → source.Ghosts A → sink.Ghosts B
+    → A → A → B → B → RunReport → Work
 work_of i o input input' output output' report = record {
   input = read_from i input input';
   output = written_to o output output';
@@ -65,7 +68,8 @@ IsNear (Some early) None read out = ⊤
 IsNear (Some early) (Some lag) read out =
     lag < length read → IsPrefix (early (take (length read - lag) read)) out
 
--- a read failed after these octets: a part of what the input means is out, which is what is early of them
+-- a read failed after these octets: a part of what the input means is out, which is what is early
+-- of them
 pub record BrokeReading (m : Meaning) (input output : Flow) : Type 0 where
   pub read : List ℕ
   pub out : List ℕ
@@ -75,7 +79,8 @@ pub record BrokeReading (m : Meaning) (input output : Flow) : Type 0 where
   pub early : IsEarly m.early read out
   pub part : (all : List ℕ) → input.told ≡ Some all → IsPrefix out (m.out all)
 
--- a write failed after these octets were read: a part of what the input means is out, which lags but little behind them
+-- a write failed after these octets were read: a part of what the input means is out, which lags
+-- but little behind them
 pub record BrokeWriting (m : Meaning) (input output : Flow) : Type 0 where
   pub read : List ℕ
   pub out : List ℕ
@@ -86,7 +91,8 @@ pub record BrokeWriting (m : Meaning) (input output : Flow) : Type 0 where
 
 -- what is left of the input: nothing where all was done, and all of it where the job doesn't read
 pub record Leaves (m : Meaning) (input : Flow) (done : Type 0) : Type 0 where
-  pub nothing : m.reads ≡ true → done → (all : List ℕ) → input.told ≡ Some all → input.told' ≡ Some []
+  pub nothing : m.reads ≡ true → done → (all : List ℕ) → input.told ≡ Some all
+      → input.told' ≡ Some []
   pub untouched : m.reads ≡ false → input.told' ≡ input.told
 
 -- an engine did what its job means

@@ -16,6 +16,6 @@ returns-clause-works g c =
     } in
     let before = c.args.output.now in
     let after = c.run_records.new.sink.output.now in
-    let out : c.output-1.given.0 ≡ after = c.output-1.given.1 (sym (c.run_records.ensures.same_reference ∙ c.new-sink.ensures.same_reference)) in
+    let out : c.output-1.given.0 ≡ after = c.output-1.given.1 (sym (c.run_records.ensures.same.reference ∙ c.new-sink.ensures.same_reference)) in
     subst (λ x. Works meaning (work_of g.I.Source g.O.Sink c.args.input.now c.run_records.new.input before x report)) (sym out)
     (subst (λ x. Works meaning (work_of g.I.Source g.O.Sink c.args.input.now c.run_records.new.input x after report)) c.new-sink.ensures.now c.run_records.ensures.works)

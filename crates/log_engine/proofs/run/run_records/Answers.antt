@@ -1,6 +1,7 @@
 use Rattle.std.proofs.Common.{refl}
 use Rattle.log_engine.proofs.CloseLemmas.{closed_broken, closed_put, halted_of, never_memory}
 use Rattle.log_engine.proofs.FaultLemmas.{calm_at, failed_on, faults_on}
+use Rattle.log_engine.proofs.GrowsLemmas.{same_through}
 use Rattle.log_engine.proofs.WorksLemmas.{finished_works, read_works, write_works}
 use Rattle.log_engine.specs.Turns.{sent, state}
 use Rattle.rtp_packet.specs.Reading.{limit_of, rest}
@@ -73,3 +74,13 @@ returns-in-Err-clause-works g c =
     (record { before = calm.1; after = refl }) c.in-Err.ensures.cause in
     write_works (g.H.RecordHandler.job c.args.handler.now) (limit_of c.args.reader.now) _
     (g.met.H.RecordHandler.early_grows c.args.handler.now) whole_grows refl broke (calm.0, failed)
+
+pub returns-in-Ok-clause-same : goal.returns-in-Ok-clause-same
+returns-in-Ok-clause-same g c =
+    same_through g.O.Sink g.met.O.Sink.transitive c.args.sink.now c.handle_all.new.sink
+    c.close.new.sink c.handle_all.ensures.same c.close.ensures.same
+
+pub returns-in-Err-clause-same : goal.returns-in-Err-clause-same
+returns-in-Err-clause-same g c =
+    same_through g.O.Sink g.met.O.Sink.transitive c.args.sink.now c.handle_all.new.sink
+    c.close.new.sink c.handle_all.ensures.same c.close.ensures.same
