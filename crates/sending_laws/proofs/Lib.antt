@@ -1,0 +1,4 @@
+mod Places
+mod Portioned
+mod Sound
+mod Staying
