@@ -1,4 +1,4 @@
-mod Places
-mod Portioned
-mod Sound
-mod Staying
+pub mod Places
+pub mod Portioned
+pub mod Sound
+pub mod Staying

@@ -3,8 +3,8 @@ ghost use Rattle.spec_sending.specs.Portions.{turn_at};
 ghost use Rattle.spec_sending.specs.declared.plan.SendPlan.{SendPlan};
 ghost use Rattle.std.specs.Prelude.{◌≡◌, ◌≤◌, ◌+◌, ◌*◌, ◌/◌, ◌%◌, ℕ};
 
-/// In groups of l packets of n blocks each place has its block and each block its place, so that every block
-/// is in exactly one packet (RFC 4867, 4.4.1).
+/// In groups of l packets of n blocks each place has its block and each block its place, so that
+/// every block is in exactly one packet (RFC 4867, 4.4.1).
 pub fn places_and_blocks_are_inverse()
     ensures there { (n l : ℕ) (p : GroupPlace) → IsGroupPlace n l p
         → place_of_block n l (block_at_place n l p) ≡ p }

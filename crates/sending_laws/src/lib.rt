@@ -1,5 +1,5 @@
-//! Laws of the packets that are sent for a list of blocks: each is the contract of a function that does
-//! nothing.
+//! Laws of the packets that are sent for a list of blocks: each is the contract of a function that
+//! does nothing.
 #![tactic(auto)]
 
 mod begun;

@@ -1,5 +1,6 @@
-//! Worked examples of files that are read and of packets that are sent, computed on the definitions. Each is the
-//! contract of a function that does nothing; the expected octets were worked out by hand from the standards.
+//! Worked examples of files that are read and of packets that are sent, computed on the
+//! definitions. Each is the contract of a function that does nothing; the expected octets were
+//! worked out by hand from the standards.
 #![tactic(auto)]
 
 mod calls;

@@ -16,15 +16,21 @@ pub fn valid_plans()
 
 /// The first rule that a plan breaks.
 pub fn refused_plans()
-    ensures format { plan_fault (record (plan (record packed { channels = 7 })) { pt = 128 }) ≡ Some (fault.Profile profile_fault.Channels) }
+    ensures format { plan_fault (record (plan (record packed { channels = 7 })) { pt = 128 })
+        ≡ Some (fault.Profile profile_fault.Channels) }
     ensures b7_none { plan_fault (record (plan packed) { blocks = 0 }) ≡ Some fault.Blocks }
-    ensures b7_many { plan_fault (record (plan packed) { blocks = 64; repeat = 1 }) ≡ Some fault.Blocks }
+    ensures b7_many { plan_fault (record (plan packed) { blocks = 64; repeat = 1 })
+        ≡ Some fault.Blocks }
     ensures b8_none { plan_fault (record (plan packed) { length = 0 }) ≡ Some fault.Length }
-    ensures b8_many { plan_fault (record (plan (interleaved 64)) { length = 17 }) ≡ Some fault.Length }
+    ensures b8_many { plan_fault (record (plan (interleaved 64)) { length = 17 })
+        ≡ Some fault.Length }
     ensures b8_no_groups { plan_fault (record (plan packed) { length = 2 }) ≡ Some fault.Length }
-    ensures b9_group { plan_fault (record (plan (interleaved 4)) { blocks = 3; length = 2 }) ≡ Some fault.Group }
-    ensures b9_packet { plan_fault (record (plan (interleaved 4)) { blocks = 4; repeat = 1 }) ≡ Some fault.Group }
-    ensures b10 { plan_fault (record (plan (interleaved 4)) { blocks = 1; length = 2; repeat = 1 }) ≡ Some fault.Repeat }
+    ensures b9_group { plan_fault (record (plan (interleaved 4)) { blocks = 3; length = 2 })
+        ≡ Some fault.Group }
+    ensures b9_packet { plan_fault (record (plan (interleaved 4)) { blocks = 4; repeat = 1 })
+        ≡ Some fault.Group }
+    ensures b10 { plan_fault (record (plan (interleaved 4)) { blocks = 1; length = 2; repeat = 1 })
+        ≡ Some fault.Repeat }
     ensures b11_wideband_mode { plan_fault (record (plan packed) { cmr = 8 }) ≡ Some fault.Request }
     ensures b11_no_mode { plan_fault (record (plan packed) { cmr = 16 }) ≡ Some fault.Request }
     ensures b12 { plan_fault (record (plan packed) { pt = 128 }) ≡ Some fault.Number }

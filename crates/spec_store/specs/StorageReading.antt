@@ -103,7 +103,8 @@ cut_refusal codec channels file = let u = units_in codec file in let n = length 
     when (not (has_magic codec file)) why.Magic
     ∷ when (not (has_header codec file)) (why.Truncated (magic_len codec file))
     ∷ when (nat_lt 0 (length u.rest)) (why.Truncated (unit_place codec file n))
-    ∷ when (nat_lt 0 (n % channels)) (why.BlockRest (unit_place codec file (n - n % channels))) ∷ [])
+    ∷ when (nat_lt 0 (n % channels))
+    (why.BlockRest (unit_place codec file (n - n % channels))) ∷ [])
 
 -- the first unit at fault
 abbrev pub store_refusal : Codec → ℕ → List ℕ → Option StoreRefusal

@@ -8,7 +8,8 @@ use Rattle.spec_store.specs.declared.refusal.StoreRefusal.TheVariants.{Magic, Ch
 -- the line of a run that sends: the blocks, read or released, and the packets
 abbrev pub sent_line : Counts → List ℕ
 sent_line counts =
-    codes "blocks=" ++ decimal counts.blocks ++ codes " packets=" ++ decimal counts.sent ++ codes "\n"
+    codes "blocks=" ++ decimal counts.blocks
+    ++ codes " packets=" ++ decimal counts.sent ++ codes "\n"
 
 -- the lines of a run that converts: that of the recording, and that of what was sent
 abbrev pub converted_lines : Counts → List ℕ

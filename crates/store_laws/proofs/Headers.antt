@@ -58,7 +58,7 @@ pub several : (codec : Codec) (a b c d : ℕ) (more : List ℕ) → Headed codec
 several Amr a b c d more = record { has = not_below (length (multi Amr ++ (a ∷ b ∷ c ∷ d ∷ more))) 16 (omega arith); told = refl; left = refl }
 several AmrWb a b c d more = record { has = not_below (length (multi AmrWb ++ (a ∷ b ∷ c ∷ d ∷ more))) 19 (omega arith); told = refl; left = refl }
 
-magic_octets : (codec : Codec) → AreOctets (single codec) × AreOctets (multi codec)
+pub magic_octets : (codec : Codec) → AreOctets (single codec) × AreOctets (multi codec)
 magic_octets Amr = (search rules, search rules)
 magic_octets AmrWb = (search rules, search rules)
 
@@ -184,7 +184,7 @@ pub record Laid (codec : Codec) (channels : ℕ) (file : List ℕ) : Type 0 wher
   pub fit : fits (header_layout codec magic channels) (bits_of head) ≡ true
   pub join : file ≡ head ++ drop (header_len codec file) file
 
-fit_one : (codec : Codec) (channels : ℕ) → fits (header_layout codec Single channels) (bits_of (single codec)) ≡ true
+pub fit_one : (codec : Codec) (channels : ℕ) → fits (header_layout codec Single channels) (bits_of (single codec)) ≡ true
 fit_one codec channels = fits_self (bits_of (single codec))
 
 last_bits : (d : ℕ) → nat 4 (d % 16) ≡ nat 4 d
@@ -195,7 +195,7 @@ last_bits d =
     let s : d % 16 / 2 ^ 0 % 2 ≡ d / 2 ^ 0 % 2 = omega arith in
     λ i. nat_eq (p i) 1 ∷ nat_eq (q i) 1 ∷ nat_eq (r i) 1 ∷ nat_eq (s i) 1 ∷ []
 
-fit_many : (codec : Codec) (a b c d : ℕ) → fits (header_layout codec Multi (d % 16)) (bits_of (multi codec ++ (a ∷ b ∷ c ∷ d ∷ []))) ≡ true
+pub fit_many : (codec : Codec) (a b c d : ℕ) → fits (header_layout codec Multi (d % 16)) (bits_of (multi codec ++ (a ∷ b ∷ c ∷ d ∷ []))) ≡ true
 fit_many Amr a b c d = ap (λ n. fits (fixed n) (nat 4 d)) (last_bits d) ∙ fits_self (nat 4 d)
 fit_many AmrWb a b c d = ap (λ n. fits (fixed n) (nat 4 d)) (last_bits d) ∙ fits_self (nat 4 d)
 

@@ -1,7 +1,8 @@
-mod Blocked
-mod Cutting
-mod Headers
-mod Longer
-mod Reading
-mod Showing
-mod Stored
+pub mod Blocked
+pub mod Cutting
+pub mod Headers
+pub mod Longer
+pub mod Reading
+pub mod Showing
+pub mod Stored
+pub mod Written

@@ -20,7 +20,7 @@ length-free : (n : ℕ) → length (free n) ≡ n
 length-free zero = refl
 length-free (suc n) = ap suc (length-free n)
 
-length-fixed : (bits : List Bool) → length (fixed bits) ≡ length bits
+pub length-fixed : (bits : List Bool) → length (fixed bits) ≡ length bits
 length-fixed [] = refl
 length-fixed (b ∷ bits) = ap suc (length-fixed bits)
 
