@@ -4,7 +4,7 @@ use Rattle.std.specs.Prelude.{option_map}
 use Rattle.amr_frame.specs.First.{when}
 use Rattle.amr_frame.specs.declared.profile.ProfileFault.{ProfileFault}
 use Rattle.amr_frame.specs.Profiles.{IsValid, profile_fault}
-use Rattle.payload_laws.proofs.Formats.{first_none, or_false, when_none}
+use Rattle.amr_frame.proofs.FirstLemmas.{first_none, or_false, when_none}
 use Rattle.spec_sending.specs.Plans.{IsPlan, carried_blocks}
 use Rattle.spec_sending.specs.declared.fault.SendFault.TheVariants as fault
 use Rattle.spec_sending.specs.declared.plan.SendPlan.{SendPlan}

@@ -7,13 +7,13 @@ use Rattle.amr_bits.proofs.Numbers.{number-nat}
 use Rattle.amr_bits.proofs.Runs.{length-run, run-all}
 use Rattle.amr_bits.specs.Bits.{AreOctets, nat, number, bits_of}
 use Rattle.amr_bits.specs.Layout.{Mark, fixed, free, fits}
-use Rattle.aligned_laws.proofs.Pieces.{fits_self, fits_long}
+use Rattle.payload_laws.proofs.Marks.{fits_length}
 use Rattle.amr_frame.specs.declared.codec.Codec.{Codec}
 use Rattle.amr_frame.specs.declared.codec.Codec.TheVariants.{Amr, AmrWb}
 use Rattle.spec_store.specs.StorageFile.{single, multi}
 use Rattle.spec_store.specs.StorageGrammar.{Magic, Single, Multi, Tells, header_layout}
 use Rattle.spec_store.specs.StorageReading.{begins_with, channels_told, has_header, has_magic, header_len}
-use Rattle.store_laws.proofs.Stored.{split, fixed_is}
+use Rattle.store_laws.proofs.Stored.{split, fits_self, fixed_same}
 
 -- a whole header of so many channels, and what is behind it
 pub record Headed (codec : Codec) (channels : ℕ) (file body : List ℕ) : Type 0 where
@@ -95,7 +95,7 @@ four channels (a ∷ []) l low e = absurd (omega arith)
 four channels (a ∷ b ∷ []) l low e = absurd (omega arith)
 four channels (a ∷ b ∷ c ∷ []) l low e = absurd (omega arith)
 four channels (a ∷ b ∷ c ∷ d ∷ []) l low e =
-    let same = fixed_is (nat 4 channels) (nat 4 d) e in
+    let same = fixed_same (nat 4 channels) (nat 4 d) e in
     let n : d % 16 ≡ channels % 16 = sym (number-nat 4 d) ∙ ap number same ∙ number-nat 4 channels in
     record { a = a; b = b; c = c; d = d; same = refl; told = omega (arith, n) }
 four channels (a ∷ b ∷ c ∷ d ∷ x ∷ more) l low e = absurd (omega arith)
@@ -108,7 +108,7 @@ pub laid : (codec : Codec) (magic : Magic) (channels : ℕ) (rest : List Mark) (
 laid codec Single channels rest file low octets one e =
     let s = split (fixed (bits_of (single codec))) rest (length (single codec)) file (single_long codec) e in
     let unit = octets_front s.unit s.more (subst AreOctets s.join octets) in
-    let same : s.unit ≡ single codec = same_octets s.unit (single codec) unit (magic_octets codec).0 (fixed_is (bits_of (single codec)) (bits_of s.unit) s.front) in
+    let same : s.unit ≡ single codec = same_octets s.unit (single codec) unit (magic_octets codec).0 (fixed_same (bits_of (single codec)) (bits_of s.unit) s.front) in
     let at : file ≡ single codec ++ s.more = s.join ∙ ap (λ u. u ++ s.more) same in
     record {
       body = s.more;
@@ -121,8 +121,8 @@ laid codec Multi channels rest file low octets one e =
     let t = split (fixed (bits_of (multi codec))) (free 28 ++ fixed (nat 4 channels)) (length (multi codec)) s.unit (multi_long codec)
     (ap (λ m. fits m (bits_of s.unit)) (sym (append_assoc (fixed (bits_of (multi codec))) (free 28) (fixed (nat 4 channels)))) ∙ s.front) in
     let magic = octets_front t.unit t.more (subst AreOctets t.join unit) in
-    let same : t.unit ≡ multi codec = same_octets t.unit (multi codec) magic (magic_octets codec).1 (fixed_is (bits_of (multi codec)) (bits_of t.unit) t.front) in
-    let size : length t.more ≡ 4 = (let l = fits_long (free 28 ++ fixed (nat 4 channels)) (bits_of t.more) t.behind in let m = bits_long t.more in omega (arith, l, m)) in
+    let same : t.unit ≡ multi codec = same_octets t.unit (multi codec) magic (magic_octets codec).1 (fixed_same (bits_of (multi codec)) (bits_of t.unit) t.front) in
+    let size : length t.more ≡ 4 = (let l = fits_length (free 28 ++ fixed (nat 4 channels)) (bits_of t.more) t.behind in let m = bits_long t.more in omega (arith, l, m)) in
     let d = four channels t.more size low t.behind in
     let at : file ≡ multi codec ++ (d.a ∷ d.b ∷ d.c ∷ d.d ∷ s.more) =
     s.join ∙ ap (λ u. u ++ s.more) (t.join ∙ (λ i. same i ++ d.same i)) ∙ append_assoc (multi codec) (d.a ∷ d.b ∷ d.c ∷ d.d ∷ []) s.more in

@@ -15,7 +15,8 @@ use Rattle.amr_frame.specs.declared.codec.Codec.{Codec}
 use Rattle.amr_frame.specs.First.{when, first}
 use Rattle.amr_frame.specs.Frames.{Frame, IsBlock, IsFrame}
 use Rattle.amr_frame.specs.Tables.{bits_in, octets_in, is_reserved}
-use Rattle.payload_laws.proofs.Formats.{first_none, when_none}
+use Rattle.amr_frame.proofs.FirstLemmas.{first_none, when_none}
+use Rattle.amr_bits.proofs.Lists.{all_append}
 use Rattle.spec_store.specs.StorageGrammar.{IsFile, block_layout, file_layout, header_layout, stored_layout}
 use Rattle.spec_store.specs.StorageReading.{Units, blocks_in, blocks_of, channels_told, cut_refusal, first_reserved, frame_in, frames_in, has_header, has_magic, header_len, is_reserved_unit, is_unit, magic_len, may_have_magic, shown_refusal, store_refusal, unit_place, unit_type, units, units_in}
 use Rattle.spec_store.specs.declared.refusal.StoreRefusal.{StoreRefusal}
@@ -100,11 +101,8 @@ units_behind codec channels file body h =
 
 all_frames : (codec : Codec) (channels : ℕ) (blocks : List (List Frame)) → AllByRecursion (IsBlock codec channels) blocks → AllByRecursion (IsFrame codec) (joined blocks)
 all_frames codec channels [] h = tt
-all_frames codec channels (b ∷ blocks) h = both b (joined blocks) h.0.frames (all_frames codec channels blocks h.1)
-  where
-    both : (xs ys : List Frame) → AllByRecursion (IsFrame codec) xs → AllByRecursion (IsFrame codec) ys → AllByRecursion (IsFrame codec) (xs ++ ys)
-    both [] ys h k = k
-    both (x ∷ xs) ys h k = (h.0, both xs ys h.1 k)
+all_frames codec channels (b ∷ blocks) h =
+    all_append (IsFrame codec) b (joined blocks) h.0.frames (all_frames codec channels blocks h.1)
 
 all_whole : (codec : Codec) (channels : ℕ) (blocks : List (List Frame)) → AllByRecursion (IsBlock codec channels) blocks → AllByRecursion (λ (b : List Frame). length b ≡ channels) blocks
 all_whole codec channels [] h = tt

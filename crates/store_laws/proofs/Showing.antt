@@ -10,7 +10,7 @@ use Rattle.std.proofs.lemmas.Nat.{div-mul-add, div-add-mod'}
 use Rattle.amr_frame.specs.declared.codec.Codec.{Codec}
 use Rattle.amr_frame.specs.First.{when, first}
 use Rattle.amr_frame.specs.Frames.{Frame}
-use Rattle.payload_laws.proofs.Formats.{or_false}
+use Rattle.amr_frame.proofs.FirstLemmas.{or_false}
 use Rattle.spec_store.specs.StorageFile.{single, multi}
 use Rattle.spec_store.specs.StorageReading.{Units, begins_with, blocks_in, blocks_of, channels_told, cut_refusal, first_reserved, frame_in, frames_in, has_header, has_header_of, has_magic, header_len, is_front_of, is_reserved_unit, may_have_magic, shown_refusal, store_refusal, unit_place, unit_type, units, units_in}
 use Rattle.spec_store.specs.declared.refusal.StoreRefusal.{StoreRefusal}

@@ -9,7 +9,7 @@ use Rattle.amr_bits.proofs.Filled.{bits-whole, filled-lt, length-filled}
 use Rattle.amr_bits.proofs.Runs.{run-all}
 use Rattle.amr_bits.specs.Bits.{AreOctets, nat, bits_of, bits_at, filled, octets_for}
 use Rattle.amr_bits.specs.Layout.{fixed, free, padded, fits}
-use Rattle.aligned_laws.proofs.Pieces.{fits_self}
+use Rattle.amr_bits.proofs.Lists.{all_append}
 use Rattle.amr_frame.specs.declared.codec.Codec.{Codec}
 use Rattle.amr_frame.specs.Frames.{Frame, IsBlock}
 use Rattle.spec_store.specs.StorageFile.{block_text, frame_text, multi, single, storage_file}
@@ -17,7 +17,7 @@ use Rattle.spec_store.specs.StorageGrammar.{IsFile, Single, Multi, block_layout,
 use Rattle.spec_store.specs.StorageReading.{blocks_in, store_refusal}
 use Rattle.store_laws.proofs.Headers.{fit_many, fit_one, magic_octets}
 use Rattle.store_laws.proofs.Reading.{in_grammar}
-use Rattle.store_laws.proofs.Stored.{fits_join, free_fits, length-fixed}
+use Rattle.store_laws.proofs.Stored.{fits_join, fits_self, free_fits, length-fixed}
 
 -- the bits of filled octets
 filled_bits : (bits : List Bool) → bits_of (filled bits) ≡ bits ++ replicate (8 * octets_for (length bits) - length bits) false
@@ -87,8 +87,7 @@ octets_by [] h = tt
 octets_by (x ∷ xs) h = (h 0, octets_by xs (λ k. h (suc k)))
 
 octets_join : (a b : List ℕ) → AreOctets a → AreOctets b → AreOctets (a ++ b)
-octets_join [] b h k = k
-octets_join (x ∷ a) b h k = (h.0, octets_join a b h.1 k)
+octets_join a b h k = all_append (λ o. o < 256) a b h k
 
 frame_octets : (f : Frame) → AreOctets (frame_text f)
 frame_octets f =
