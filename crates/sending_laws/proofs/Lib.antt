@@ -1,0 +1,4 @@
+pub mod Places
+pub mod Portioned
+pub mod Sound
+pub mod Staying
