@@ -1,13 +1,9 @@
-// A library with one function.
+//! Offers of AMR and AMR-WB (RFC 3264, RFC 4566, RFC 4867, 8.3) as they are read, and the answer to them:
+//! definitions alone.
 #![tactic(auto)]
 
-ghost use Rattle.std.specs.Prelude.{◌≡◌};
-ghost use Rattle.spec_offer.specs.Echo.{echo_of};
+mod answer;
+mod refusal;
 
-// The `ensures` clause is the contract: what `echo` returns is `echo_of` of its argument, a definition
-// in `specs/Echo.antt`, which a caller's clause can cite too.
-pub fn echo(x: usize) -> usize
-    ensures { result ≡ echo_of x }
-{
-    x
-}
+pub use answer::{RefusedType, Why};
+pub use refusal::OfferRefusal;
