@@ -1,13 +1,3 @@
-// A library with one function.
+//! The listing of a packet log: a line for each record, with what it says or why it is refused. Definitions alone;
+//! the texts are this project's own.
 #![tactic(auto)]
-
-ghost use Rattle.std.specs.Prelude.{◌≡◌};
-ghost use Rattle.spec_listing.specs.Echo.{echo_of};
-
-// The `ensures` clause is the contract: what `echo` returns is `echo_of` of its argument, a definition
-// in `specs/Echo.antt`, which a caller's clause can cite too.
-pub fn echo(x: usize) -> usize
-    ensures { result ≡ echo_of x }
-{
-    x
-}
