@@ -1,7 +1,7 @@
 ghost use Rattle.amr_frame.specs.declared.codec.Codec.TheVariants.{AmrWb};
-ghost use Rattle.listing_rows.specs.Words.{listed, listing_of, one, stepping};
-ghost use Rattle.spec_listing.specs.Listing.{listing, listing_end, listing_out};
-ghost use Rattle.spec_record.specs.Recording.{Done, LimitReached, LogCut};
+ghost use Rattle.listing_rows.specs.Words.{listed, listing_of, meaning, one, stepping};
+ghost use Rattle.run_report.specs.declared.end.RunEnd.TheVariants.{Done, LimitReached, LogCut};
+ghost use Rattle.spec_listing.specs.Listing.{listing};
 ghost use Rattle.std.specs.Prelude.{◌++◌, ◌∷◌, ◌≡◌, ◌^◌, Some, [], codes, true};
 ghost use Rattle.worked_rows.specs.Words.{aligned, interleaved, packed, rec, rtp, seven, zeros};
 
@@ -47,10 +47,10 @@ pub fn listed_modes()
 
 /// What is listed of an input, and how that ends.
 pub fn ends_of_listings()
-    ensures whole { listing_out (listing_of packed) (2 ^ 40) (rec 0 0 seven) ≡ codes "0 44 pt=96 m=0 seq=0 ts=0 ssrc=00000000 cmr=15 mode=7 stride=1 index=0 blocks=1 frames=7/1\n" }
-    ensures cut_short { listing_out (listing_of packed) (2 ^ 40) (zeros 3) ≡ codes "0 0 null\n" }
-    ensures cut_end { listing_end (2 ^ 40) (zeros 3) ≡ LogCut 1 }
-    ensures limit { listing_out (listing_of packed) 2 (zeros 3) ≡ codes "0 0 null\n" }
-    ensures limit_end { listing_end 2 (zeros 3) ≡ LimitReached }
-    ensures done { listing_end 2 (zeros 2) ≡ Done }
+    ensures whole { (meaning (2 ^ 40)).out (rec 0 0 seven) ≡ codes "0 44 pt=96 m=0 seq=0 ts=0 ssrc=00000000 cmr=15 mode=7 stride=1 index=0 blocks=1 frames=7/1\n" }
+    ensures cut_short { (meaning (2 ^ 40)).out (zeros 3) ≡ codes "0 0 null\n" }
+    ensures cut_end { (meaning (2 ^ 40)).end (zeros 3) ≡ LogCut 1 }
+    ensures limit { (meaning 2).out (zeros 3) ≡ codes "0 0 null\n" }
+    ensures limit_end { (meaning 2).end (zeros 3) ≡ LimitReached }
+    ensures done { (meaning 2).end (zeros 2) ≡ Done }
 {}

@@ -13,7 +13,9 @@ use Rattle.spec_packet.specs.RtpReading.{rtp_of}
 use Rattle.spec_packet.specs.declared.refusal.RtpRefusal.{RtpRefusal}
 use Rattle.spec_payload.specs.Reading.{payload_refusal}
 use Rattle.spec_payload.specs.declared.refusal.PayloadRefusal.{PayloadRefusal}
-use Rattle.spec_record.specs.Recording.{End, end_of, records_of}
+use Rattle.run_report.specs.Lines.{no_counts}
+use Rattle.run_report.specs.declared.report.CountLines.TheVariants as lines
+use Rattle.spec_run.specs.LogRuns.{RecordsJob}
 use Rattle.spec_session.specs.Packets.{is_asked, packets_of}
 
 -- what a listing goes by: the format, the payload type or any, the mode desk, and whether the bits of frames are
@@ -66,11 +68,7 @@ listed_record l records n = let octets = slice_index_or records n [] in
 abbrev pub listing : Listing → List (List ℕ) → List ℕ
 listing l records = flat_map (listed_record l records) (range_with_len 0 (length records))
 
--- what is put out for an input and a limit of octets: the listing of its whole records. As much is out while more
--- octets may follow
-abbrev pub listing_out : Listing → ℕ → List ℕ → List ℕ
-listing_out l limit input = listing l (records_of limit input)
-
--- it ends as a recording of the log does, and has no notes before that of the end
-abbrev pub listing_end : ℕ → List ℕ → End
-listing_end limit input = end_of limit input
+-- what listing does with records: it puts out a record's lines before it looks for the next, counts nothing and notes
+-- no counts
+abbrev pub listing_job : Listing → RecordsJob
+listing_job l = record { early = listing l; whole = listing l; counts = λ records. no_counts; lines = lines.None }

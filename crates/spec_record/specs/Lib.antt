@@ -1,2 +1,3 @@
 pub mod RecordCounts
+pub mod RecordMeaning
 pub mod Recording

@@ -1,7 +1,8 @@
 -- The counts of a recording: ours. A record counts under the first of these that holds: it has no octet, it isn't an
 -- RTP packet, its payload type isn't the asked one, its payload isn't one of the format, it isn't accepted.
-use Rattle.std.specs.Prelude.{ℕ, ◌-◌, Bool, true, false, not, ◌&&◌, List, [], ◌∷◌, length, filter, Option, None, Some, Result, Ok, Err, is_some}
+use Rattle.std.specs.Prelude.{ℕ, ◌-◌, Bool, true, false, not, ◌&&◌, List, [], ◌∷◌, length, filter, Option, Result, Ok, Err, is_some}
 use Rattle.amr_frame.specs.declared.profile.Profile.{Profile}
+use Rattle.run_report.specs.declared.counts.Counts.{Counts}
 use Rattle.spec_packet.specs.Rtp.{RtpPacket}
 use Rattle.spec_packet.specs.RtpReading.{rtp_of}
 use Rattle.spec_packet.specs.declared.refusal.RtpRefusal.{RtpRefusal}
@@ -43,19 +44,8 @@ is_no_payload p asked octets = not (is_null octets) && has_no_payload p asked (r
 abbrev pub count : (List ℕ → Bool) → List (List ℕ) → ℕ
 count holds records = length (filter holds records)
 
--- the counts of a recording of these records
-pub record RecordCounts : Type 0 where
-  pub packets : ℕ
-  pub null : ℕ
-  pub rtp : ℕ
-  pub other_type : ℕ
-  pub payload : ℕ
-  pub place : ℕ
-  pub late : ℕ
-  pub copies : ℕ
-  pub blocks : ℕ
-
-abbrev pub counts_of : Recording → List (List ℕ) → RecordCounts
+-- what recording these records counts; it sends none
+abbrev pub counts_of : Recording → List (List ℕ) → Counts
 counts_of r records = let h = packets_of r.profile r.asked records in record {
   packets = length records;
   null = count is_null records;
@@ -66,4 +56,5 @@ counts_of r records = let h = packets_of r.profile r.asked records in record {
   late = late_count r.rules h;
   copies = copy_count r.rules h;
   blocks = block_count r.rules h;
+  sent = 0;
 }

@@ -1,7 +1,6 @@
--- What recording a packet log writes, and how it ends, for a whole input and a limit of octets.
-use Rattle.std.specs.Prelude.{ℕ, cond, nat_lt, List, [], ◌∷◌, length, take, ℤ, pos, ◌-ℤ◌, Option, None, Some}
+-- What recording the records of a packet log writes: ours.
+use Rattle.std.specs.Prelude.{ℕ, List, [], ℤ, pos, ◌-ℤ◌, Option, None, Some}
 use Rattle.amr_frame.specs.declared.profile.Profile.{Profile}
-use Rattle.spec_packet.specs.Log.{cut}
 use Rattle.amr_frame.specs.Frames.{Frame}
 use Rattle.spec_session.specs.Packets.{Packet, packets_of}
 use Rattle.spec_session.specs.Release.{released, released_up_to}
@@ -31,29 +30,3 @@ gone_out rules h = up_to_window rules h (horizon rules h)
 abbrev pub early_of : Recording → List (List ℕ) → List ℕ
 early_of r records =
     storage_file r.rules.codec r.rules.channels (gone_out r.rules (packets_of r.profile r.asked records))
-
--- the records of an input, and what is left behind them: of its first `limit` octets
-abbrev pub records_of : ℕ → List ℕ → List (List ℕ)
-records_of limit input = (cut (take limit input)).packets
-
-abbrev pub rest_of : ℕ → List ℕ → List ℕ
-rest_of limit input = (cut (take limit input)).rest
-
--- what is written for an input
-abbrev pub output_of : Recording → ℕ → List ℕ → List ℕ
-output_of r limit input = file_of r (records_of limit input)
-
--- how a recording ends without a fault
-pub data End : Type 0 where
-  LimitReached : End
-  LogCut : (have : ℕ) → End
-  Done : End
-
--- the end by what is left behind the last record
-abbrev pub rest_end : List ℕ → End
-rest_end [] = Done
-rest_end (o ∷ rest) = LogCut (length (o ∷ rest))
-
--- the first that holds: the input is longer than the limit, the log is cut inside a record, or all was read
-abbrev pub end_of : ℕ → List ℕ → End
-end_of limit input = cond (nat_lt limit (length input)) LimitReached (rest_end (rest_of limit input))

@@ -4,7 +4,7 @@ use Rattle.std.proofs.lemmas.List.{take-append-drop}
 use Rattle.std.proofs.KnownBytes.{Appends-trans}
 use Rattle.std.specs.Io.KnownBytes.{Appends}
 use Rattle.amr_io.specs.Told.{AppendsPart}
-use Rattle.amr_notes.specs.Written.{AppendsFront}
+use Rattle.run_report.specs.Written.{AppendsFront}
 
 -- a proper prefix is a front
 pub part_is_front : (got got' : Option (List ℕ)) (octets : List ℕ) → AppendsPart got got' octets → AppendsFront got got' octets

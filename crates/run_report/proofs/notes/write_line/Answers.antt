@@ -1,8 +1,8 @@
 use Rattle.std.proofs.Common.{subst, ◌∙◌}
 use Rattle.std.proofs.lemmas.Result.{on_err_weaker}
-use Rattle.amr_notes.specs.Written.{AppendsFront}
-use Rattle.amr_notes.proofs.Fronts.{part_is_front}
-use Rattle.amr_notes.proofs.notes.write_line.Goals as goal
+use Rattle.run_report.specs.Written.{AppendsFront}
+use Rattle.run_report.proofs.Fronts.{part_is_front}
+use Rattle.run_report.proofs.notes.write_line.Goals as goal
 
 pub returns-clause-part : goal.returns-clause-part
 returns-clause-part g c =

@@ -1,5 +1,6 @@
 // What a run counts.
 ghost use Rattle.std.specs.Prelude.{◌≡◌};
+ghost use Rattle.run_report.specs.Lines.{no_counts};
 
 /// The counts of a run.
 ///
@@ -32,7 +33,7 @@ pub struct Counts {
 impl Counts {
     /// The counts of a run that has seen nothing.
     pub fn none() -> Counts
-        ensures { result ≡ record { packets = 0; null = 0; rtp = 0; other_type = 0; payload = 0; place = 0; late = 0; copies = 0; blocks = 0; sent = 0 } }
+        ensures { result ≡ no_counts }
     {
         Counts {
             packets: 0,

@@ -1,10 +1,11 @@
 // One note, gathered before it is written.
 ghost use Rattle.std.specs.Prelude.{◌≡◌, ◌+◌, ◌≤◌, ◌++◌, length, decimal};
 ghost use Rattle.arrayvec.specs.ArrayString.{array_string_len};
-ghost use Rattle.amr_notes.specs.Lines.{last_line, record_line};
+ghost use Rattle.run_report.specs.Lines.{count_lines, end_line, record_line, usage_line};
 
 use crate::counts::Counts;
-use crate::last::LastLine;
+use crate::end::RunEnd;
+use crate::report::CountLines;
 use arrayvec::ArrayString;
 use itoa::Buffer;
 
@@ -24,7 +25,7 @@ fn push_count(line: &mut Line, name: &str, count: u64)
 }
 
 /// The line of the counts of a run that records a log.
-pub fn gather_record(counts: &Counts) -> Line
+fn gather_record(counts: &Counts) -> Line
     ensures { result.bytes ≡ record_line counts.now }
 {
     let mut line = ArrayString::new();
@@ -41,24 +42,41 @@ pub fn gather_record(counts: &Counts) -> Line
     line
 }
 
-/// The last line, which is empty where there is none.
-pub fn gather_last(last: LastLine) -> Line
-    ensures { result.bytes ≡ last_line last }
+/// The lines of the counts of a command, which are empty where it has none.
+pub fn gather_counts(lines: CountLines, counts: &Counts) -> Line
+    ensures { result.bytes ≡ count_lines lines counts.now }
+{
+    match lines {
+        CountLines::None => ArrayString::new(),
+        CountLines::Recording => gather_record(counts),
+    }
+}
+
+/// The line of an end, which is empty for a run that met nothing.
+pub fn gather_end(end: RunEnd) -> Line
+    ensures { result.bytes ≡ end_line end }
 {
     let mut line = ArrayString::new();
-    match last {
-        LastLine::None => {}
-        LastLine::Usage => line.push_str(
-            "usage: record, stream, convert, list, answer or trial, then pairs of an option and its value\n",
-        ),
-        LastLine::Truncated { have } => {
+    match end {
+        RunEnd::Done => {}
+        RunEnd::LogCut { have } => {
             push_count(&mut line, "truncated have=", have as u64);
             line.push_str("\n");
         }
-        LastLine::ReadFault => line.push_str("read fault\n"),
-        LastLine::WriteFault => line.push_str("write fault\n"),
-        LastLine::OutOfMemory => line.push_str("out of memory\n"),
-        LastLine::LimitReached => line.push_str("limit reached\n"),
+        RunEnd::ReadFault => line.push_str("read fault\n"),
+        RunEnd::WriteFault => line.push_str("write fault\n"),
+        RunEnd::OutOfMemory => line.push_str("out of memory\n"),
+        RunEnd::LimitReached => line.push_str("limit reached\n"),
     }
+    line
+}
+
+/// The line where the words give no job.
+pub fn gather_usage() -> Line
+    ensures { result.bytes ≡ usage_line }
+{
+    let mut line = ArrayString::new();
+    line.push_str("usage: record, stream, convert, list, answer or trial, ");
+    line.push_str("then pairs of an option and its value\n");
     line
 }

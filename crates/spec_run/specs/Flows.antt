@@ -1,0 +1,48 @@
+-- What a run did to a source or a sink that it was lent: ours.
+use Rattle.std.specs.Prelude.{◌≡◌, ℕ, List, Option}
+use Rattle.amr_io.specs.Fault.{Rose}
+use Rattle.amr_io.specs.declared.sink.Sink as sink
+use Rattle.amr_io.specs.declared.source.Source as source
+use Rattle.run_report.specs.declared.end.RunEnd.{RunEnd}
+use Rattle.run_report.specs.declared.end.RunEnd.TheVariants as end
+
+-- the octets that are told, left in a source or got by a sink, and the count of faults; before, and after
+pub record Flow : Type 0 where
+  pub told : Option (List ℕ)
+  pub told' : Option (List ℕ)
+  pub faults : ℕ
+  pub faults' : ℕ
+
+-- what was read from a source
+abbrev pub read_from : {A : Type 0} → source.Ghosts A → A → A → Flow
+read_from s old new = record {
+  told = s.left old;
+  told' = s.left new;
+  faults = s.faults old;
+  faults' = s.faults new;
+}
+
+-- what was written to a sink
+abbrev pub written_to : {A : Type 0} → sink.Ghosts A → A → A → Flow
+written_to s old new = record {
+  told = s.got old;
+  told' = s.got new;
+  faults = s.faults old;
+  faults' = s.faults new;
+}
+
+-- the count rose; it is as before
+abbrev pub Failed : Flow → Type 0
+Failed flow = Rose flow.faults flow.faults'
+
+abbrev pub Calm : Flow → Type 0
+Calm flow = flow.faults' ≡ flow.faults
+
+-- which count of faults rose, the input's or the output's, by the end
+abbrev pub FaultsOf : RunEnd → Flow → Flow → Type 0
+FaultsOf end.Done input output = Calm input × Calm output
+FaultsOf (end.LogCut have) input output = Calm input × Calm output
+FaultsOf end.LimitReached input output = Calm input × Calm output
+FaultsOf end.OutOfMemory input output = Calm input × Calm output
+FaultsOf end.ReadFault input output = Failed input × Calm output
+FaultsOf end.WriteFault input output = Calm input × Failed output
