@@ -1,10 +1,9 @@
 -- The words of the worked examples of listings.
 use Rattle.std.specs.Prelude.{ℕ, Bool, true, false, List, [], ◌∷◌, Option, Some, None}
 use Rattle.amr_frame.specs.declared.profile.Profile.{Profile}
-use Rattle.spec_listing.specs.Listing.{Listing, listing, listing_job}
+use Rattle.spec_listing.specs.Listing.{Listing, list_meaning, listing}
 use Rattle.spec_modes.specs.Desk.{DeskPlan}
 use Rattle.spec_modes.specs.ModeSets.{all_modes, greatest}
-use Rattle.spec_run.specs.LogRuns.{log_meaning}
 use Rattle.spec_run.specs.Meanings.{Meaning}
 use Rattle.worked_rows.specs.Words.{packed, rtp, zeros}
 
@@ -32,4 +31,4 @@ one payload = rtp 0 0 0 payload
 
 -- what listing any payload type of plain AMR means under a limit
 abbrev pub meaning : ℕ → Meaning
-meaning limit = log_meaning limit (listing_job (listing_of packed))
+meaning limit = list_meaning (listing_of packed) limit

@@ -15,7 +15,8 @@ use Rattle.spec_payload.specs.Reading.{payload_refusal}
 use Rattle.spec_payload.specs.declared.refusal.PayloadRefusal.{PayloadRefusal}
 use Rattle.run_report.specs.Lines.{no_counts}
 use Rattle.run_report.specs.declared.report.CountLines.TheVariants as lines
-use Rattle.spec_run.specs.LogRuns.{RecordsJob}
+use Rattle.spec_run.specs.LogRuns.{RecordsJob, log_meaning}
+use Rattle.spec_run.specs.Meanings.{Meaning}
 use Rattle.spec_session.specs.Packets.{is_asked, packets_of}
 
 -- what a listing goes by: the format, the payload type or any, the mode desk, and whether the bits of frames are
@@ -68,7 +69,10 @@ listed_record l records n = let octets = slice_index_or records n [] in
 abbrev pub listing : Listing → List (List ℕ) → List ℕ
 listing l records = flat_map (listed_record l records) (range_with_len 0 (length records))
 
--- what listing does with records: it puts out a record's lines before it looks for the next, counts nothing and notes
--- no counts
-abbrev pub listing_job : Listing → RecordsJob
-listing_job l = record { early = listing l; whole = listing l; counts = λ records. no_counts; lines = lines.None }
+-- what listing does with records: the lines of each are out before the next is looked for; nothing is counted or noted
+abbrev pub list_job : Listing → RecordsJob
+list_job l = record { early = listing l; whole = listing l; counts = λ records. no_counts; lines = lines.None }
+
+-- what it means, where at most `limit` octets are taken
+abbrev pub list_meaning : Listing → ℕ → Meaning
+list_meaning l limit = log_meaning limit (list_job l)
