@@ -75,11 +75,12 @@ is_named r piece = str_eq_ignore_ascii_case r.name (name_of piece)
 abbrev pub row_of : List ℕ → Option Row
 row_of piece = find (λ r. is_named r piece) rows
 
-abbrev is_in : ℕ → ℕ → Option ℕ → Bool
+-- whether a number is there and in a range, or a speech mode
+abbrev pub is_in : ℕ → ℕ → Option ℕ → Bool
 is_in least greatest None = false
 is_in least greatest (Some n) = nat_le least n && nat_le n greatest
 
-abbrev is_mode_number : Codec → Option ℕ → Bool
+abbrev pub is_mode_number : Codec → Option ℕ → Bool
 is_mode_number codec None = false
 is_mode_number codec (Some n) = is_mode codec n
 

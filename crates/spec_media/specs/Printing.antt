@@ -8,10 +8,10 @@ use Rattle.spec_media.specs.declared.param.Param.TheVariants as param
 use Rattle.spec_media.specs.Params.{Row, Parameters, rows}
 
 -- a parameter that is on, or a number that isn't 1
-abbrev on : Bool → Option (List ℕ)
+abbrev pub on : Bool → Option (List ℕ)
 on flag = when flag (codes "1")
 
-abbrev other_than_1 : ℕ → Option (List ℕ)
+abbrev pub other_than_1 : ℕ → Option (List ℕ)
 other_than_1 n = cond (nat_eq n 1) None (Some (decimal n))
 
 -- modes in rising order, with commas between them

@@ -18,7 +18,7 @@ abbrev pub same_name : List ℕ → List ℕ → Bool
 same_name a b = str_eq_ignore_ascii_case (name_of a) (name_of b)
 
 -- why a parameter of the table is refused: its value isn't allowed, or it stood before
-abbrev row_refusal : Codec → List (List ℕ) → List ℕ → Option Row → Option FmtpRefusal
+abbrev pub row_refusal : Codec → List (List ℕ) → List ℕ → Option Row → Option FmtpRefusal
 row_refusal codec before piece None = None
 row_refusal codec before piece (Some r) = first (
     when (not (is_allowed codec r.values (value_of piece))) (why.BadValue r.param)
@@ -51,7 +51,7 @@ refusal codec ps = first (
     ++ when (is_given octet_align 0 ps && asks_alignment ps) why.Contradiction ∷ [])
 
 -- the modes of a list, as a set
-abbrev modes_of : Codec → List ℕ → List ℕ
+abbrev pub modes_of : Codec → List ℕ → List ℕ
 modes_of codec value = modes_among codec (filter_map (number_in 5) (items value))
 
 -- what pieces say: each parameter what it is given, or its default
@@ -68,7 +68,8 @@ parameters_in codec ps = record {
   max_red = given max_red ps;
 }
 
-abbrev answered : Option FmtpRefusal → Parameters → Result Parameters FmtpRefusal
+-- what is read where nothing is refused
+abbrev pub answered : Option FmtpRefusal → Parameters → Result Parameters FmtpRefusal
 answered None p = Ok p
 answered (Some r) p = Err r
 

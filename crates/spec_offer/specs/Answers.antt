@@ -82,7 +82,7 @@ answer_lines o w port c =
     let parameters = printed c.parameters in
     (codes "m=audio " ++ decimal port ++ codes " " ++ o.protocol ++ codes " " ++ decimal c.pt)
     ∷ (codes "a=rtpmap:" ++ decimal c.pt ++ codes " " ++ codec_name w.codec ++ codes "/" ++ decimal (clock w.codec)
-        ++ codes "/" ++ decimal w.channels)
+    ++ codes "/" ++ decimal w.channels)
     ∷ cond (is_empty parameters) [] ((codes "a=fmtp:" ++ decimal c.pt ++ codes " " ++ parameters) ∷ [])
     ++ time_line (codes "a=ptime:") o.ptime ++ time_line (codes "a=maxptime:") o.maxptime
   where
