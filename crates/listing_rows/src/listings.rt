@@ -21,6 +21,10 @@ pub fn listed_packets()
 pub fn listed_payloads()
     ensures one_frame { listed packed (one seven) ≡ codes "0 44 pt=96 m=0 seq=0 ts=0 ssrc=00000000 cmr=15 mode=7 stride=1 index=0 blocks=1 frames=7/1\n" }
     ensures p10 { listed packed (one (seven ++ 0 ∷ [])) ≡ codes "0 45 pt=96 m=0 seq=0 ts=0 ssrc=00000000 refused=P10 need=32 have=33\n" }
+    ensures p2 { listed (interleaved 4) (one (0xF0 ∷ [])) ≡ codes "0 13 pt=96 m=0 seq=0 ts=0 ssrc=00000000 refused=P2\n" }
+    ensures p6 { listed (record packed { max_blocks = 1 }) (one (0xFF ∷ 0xDF ∷ [])) ≡ codes "0 14 pt=96 m=0 seq=0 ts=0 ssrc=00000000 refused=P6\n" }
+    ensures p7 { listed (record aligned { channels = 2 }) (one (0xF0 ∷ 0xFC ∷ 0xFC ∷ 0x7C ∷ [])) ≡ codes "0 16 pt=96 m=0 seq=0 ts=0 ssrc=00000000 refused=P7 entries=3\n" }
+    ensures p9 { listed packed (one (0xF2 ∷ 0x40 ∷ zeros 17)) ≡ codes "0 31 pt=96 m=0 seq=0 ts=0 ssrc=00000000 refused=P9 need=20 have=19\n" }
     ensures p3 { listed (interleaved 4) (one (0xF0 ∷ 0x12 ∷ 0xC4 ∷ 0x44 ∷ zeros 10)) ≡ codes "0 26 pt=96 m=0 seq=0 ts=0 ssrc=00000000 refused=P3 ill=1 ilp=2\n" }
     ensures p4 { listed aligned (one (0xF0 ∷ 0xFC ∷ [])) ≡ codes "0 14 pt=96 m=0 seq=0 ts=0 ssrc=00000000 refused=P4 entries=1\n" }
     ensures p5 { listed packed (one (0xF4 ∷ 0xC0 ∷ [])) ≡ codes "0 14 pt=96 m=0 seq=0 ts=0 ssrc=00000000 refused=P5 entry=0 ft=9\n" }

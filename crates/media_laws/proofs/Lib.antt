@@ -1,6 +1,7 @@
-pub mod Texts
+pub mod Desks
 pub mod Numbers
-pub mod Rows
-pub mod Values
-pub mod Refusals
 pub mod Printed
+pub mod Refusals
+pub mod Rows
+pub mod Texts
+pub mod Values

@@ -3,6 +3,7 @@ ghost use Rattle.media_rows.specs.Offers.{asks, answer, modes_wanted, noted, off
 ghost use Rattle.media_rows.specs.Words.{aligned, plain};
 ghost use Rattle.spec_offer.specs.Answering.{Done, LimitReached, NoAnswer, Refused, answer_end, answer_out, offer_refusal_line};
 ghost use Rattle.spec_offer.specs.Answers.{unsuited};
+ghost use Rattle.spec_media.specs.declared.param.Param.TheVariants as param;
 ghost use Rattle.spec_media.specs.declared.refusal.FmtpRefusal.TheVariants as fmtp;
 ghost use Rattle.spec_offer.specs.declared.answer.Why.TheVariants as reason;
 ghost use Rattle.spec_offer.specs.declared.refusal.OfferRefusal.TheVariants as why;
@@ -48,6 +49,9 @@ pub fn noted_offers()
     ensures worked { noted wanted worked_offer ≡ codes "type=97 refused=codec\n" }
     ensures none_suits { noted (modes_wanted (0 ∷ 2 ∷ [])) worked_offer ≡ codes "type=97 refused=codec\ntype=98 refused=modes\n" }
     ensures refused { noted wanted (offer_with (codes "a=rtpmap:98 AMR") []) ≡ [] }
+    ensures f1 { offer_refusal_line (why.Parameters 98 fmtp.NoName) ≡ codes "refused=F1 pt=98\n" }
+    ensures f2 { offer_refusal_line (why.Parameters 98 (fmtp.BadValue param.ModeSet)) ≡ codes "refused=F2 pt=98 param=mode-set\n" }
+    ensures f3 { offer_refusal_line (why.Parameters 98 (fmtp.Repeated param.Crc)) ≡ codes "refused=F3 pt=98 param=crc\n" }
     ensures f4 { offer_refusal_line (why.Parameters 98 fmtp.Contradiction) ≡ codes "refused=F4 pt=98\n" }
     ensures f5 { offer_refusal_line why.NoAudio ≡ codes "refused=F5\n" }
     ensures f6 { offer_refusal_line (why.BadMap 9) ≡ codes "refused=F6 line=9\n" }

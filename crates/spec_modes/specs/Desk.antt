@@ -1,10 +1,11 @@
 -- The mode desk: the mode that a sender would send, step by step, by the requests that it hears. The rules on
 -- neighbours and periods are those of RFC 4867, 8.1 (mode-change-neighbor, mode-change-period); that a step is
 -- a payload, and the mode a request leads to, are this project's own.
-use Rattle.std.specs.Prelude.{ℕ, suc, ◌%◌, min, max, cond, Bool, nat_eq, nat_lt, nat_le, List, [], ◌∷◌, filter, fold, flat_map}
+use Rattle.std.specs.Prelude.{◌≡◌, ◌≤◌, ℕ, suc, ◌%◌, min, max, cond, Bool, true, false, nat_eq, nat_lt, nat_le, List, [], ◌∷◌, length, filter, fold, flat_map}
 use Rattle.amr_frame.specs.declared.codec.Codec.{Codec}
 use Rattle.spec_modes.specs.declared.request.Request.{Request}
 use Rattle.spec_modes.specs.declared.request.Request.TheVariants as request
+use Rattle.spec_modes.specs.ModeSets.{IsModeSet, has}
 use Rattle.spec_modes.specs.Requests.{request_in}
 
 -- what a desk goes by: the codec, the set of its modes, whether it moves to a neighbour only, after how many
@@ -16,6 +17,12 @@ pub record DeskPlan : Type 0 where
   pub period : ℕ
   pub start : ℕ
 
+-- a desk can be made so: of a set of modes, one of which it starts at, and with a period of 1 or 2
+pub record IsDeskPlan (plan : DeskPlan) : Type 0 where
+  pub modes : IsModeSet plan.codec plan.modes
+  pub start : has plan.modes plan.start ≡ true
+  pub period : (1 ≤ plan.period) × (plan.period ≤ 2)
+
 -- a desk: its mode, the mode that it moves to, and how many steps it made
 pub record Desk : Type 0 where
   pub mode : ℕ
@@ -26,6 +33,14 @@ pub record Desk : Type 0 where
 pub data Event : Type 0 where
   Hear : (cmr : ℕ) → Event
   Step : Event
+
+abbrev is_step : Event → Bool
+is_step (Hear cmr) = false
+is_step Step = true
+
+-- how many of these events are steps
+abbrev pub steps_in : List Event → ℕ
+steps_in events = length (filter is_step events)
 
 -- the greatest of these modes, or the one that stays where there is none
 abbrev pub greatest_or : ℕ → List ℕ → ℕ

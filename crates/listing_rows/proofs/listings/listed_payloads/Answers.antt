@@ -11,6 +11,22 @@ pub returns-clause-p10 : goal.returns-clause-p10
 unfolding digits encode_with
 returns-clause-p10 c = refl
 
+pub returns-clause-p2 : goal.returns-clause-p2
+unfolding digits encode_with
+returns-clause-p2 c = refl
+
+pub returns-clause-p6 : goal.returns-clause-p6
+unfolding digits encode_with
+returns-clause-p6 c = refl
+
+pub returns-clause-p7 : goal.returns-clause-p7
+unfolding digits encode_with
+returns-clause-p7 c = refl
+
+pub returns-clause-p9 : goal.returns-clause-p9
+unfolding digits encode_with
+returns-clause-p9 c = refl
+
 pub returns-clause-p3 : goal.returns-clause-p3
 unfolding digits encode_with
 returns-clause-p3 c = refl
