@@ -1,2 +1,3 @@
 pub mod StorageFile
+pub mod StorageGrammar
 pub mod StorageReading

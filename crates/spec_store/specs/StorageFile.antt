@@ -1,4 +1,5 @@
--- Storage files as they are written (RFC 4867, 5.1 single channel, 5.2 multichannel header, 5.3 frames).
+-- Storage files as they are written (RFC 4867, 5.1 single channel, 5.2 multichannel header, 5.3
+-- frames).
 use Rattle.std.specs.Prelude.{ℕ, false, cond, nat_eq, List, [], ◌∷◌, ◌++◌, flat_map, codes}
 use Rattle.amr_frame.specs.declared.codec.Codec.{Codec}
 use Rattle.amr_frame.specs.declared.codec.Codec.TheVariants.{Amr, AmrWb}
@@ -17,11 +18,12 @@ single codec = name codec ++ codes "\n"
 abbrev pub multi : Codec → List ℕ
 multi codec = name codec ++ codes "_MC1.0\n"
 
--- the header: for several channels the magic number and 32 bits whose last 4 are the number of channels
+-- the header: the magic number, and for several channels 32 bits, the last 4 telling their number
 abbrev pub header : Codec → ℕ → List ℕ
-header codec channels = cond (nat_eq channels 1) (single codec) (multi codec ++ 0 ∷ 0 ∷ 0 ∷ channels ∷ [])
+header codec channels =
+    cond (nat_eq channels 1) (single codec) (multi codec ++ 0 ∷ 0 ∷ 0 ∷ channels ∷ [])
 
--- a frame: an octet with P 0, the type in 4 bits, Q and two P bits 0, and the bits filled with zeros
+-- a frame: an octet with P 0, the type, Q and two P bits 0, and then the bits filled with zeros
 abbrev pub frame_text : Frame → List ℕ
 frame_text f = filled (false ∷ nat 4 f.ft ++ f.q ∷ []) ++ filled f.bits
 

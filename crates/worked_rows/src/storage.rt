@@ -1,6 +1,7 @@
 ghost use Rattle.amr_frame.specs.declared.codec.Codec.TheVariants.{Amr, AmrWb};
 ghost use Rattle.spec_store.specs.StorageFile.{header, storage_file};
-ghost use Rattle.spec_store.specs.StorageReading.{AreStored, blocks_in, frames_in, store_refusal};
+ghost use Rattle.spec_store.specs.StorageGrammar.{IsFileBy, Single};
+ghost use Rattle.spec_store.specs.StorageReading.{blocks_in, store_refusal};
 ghost use Rattle.spec_store.specs.declared.refusal.StoreRefusal.TheVariants as why;
 ghost use Rattle.std.specs.Prelude.{◌++◌, ◌∷◌, ◌≡◌, None, Some, []};
 ghost use Rattle.worked_rows.specs.Words.{magic, two_channels, zeros};
@@ -16,7 +17,7 @@ pub fn headers()
 pub fn stored_frames()
     ensures read_back { let file = magic ++ 0x3C ∷ zeros 31 ++ 0x44 ∷ zeros 5 in storage_file Amr 1 (blocks_in Amr 1 file) ≡ file }
     ensures free_bits { let file = magic ++ 0xC7 ∷ zeros 4 ++ 0x01 ∷ [] in storage_file Amr 1 (blocks_in Amr 1 file) ≡ magic ++ 0x44 ∷ zeros 5 }
-    ensures layout { let octets = 0xC7 ∷ zeros 4 ++ 0x01 ∷ [] in AreStored Amr (frames_in Amr (magic ++ octets)) octets }
+    ensures layout { let file = magic ++ 0xC7 ∷ zeros 4 ++ 0x01 ∷ [] in IsFileBy Amr 1 Single (blocks_in Amr 1 file) file }
 {}
 
 /// The first unit of a file that is at fault.

@@ -1,0 +1,5 @@
+pub mod Groups
+pub mod Left
+pub mod Plans
+pub mod Portions
+pub mod Sending
