@@ -1,11 +1,10 @@
 -- The words of the worked examples of listings.
-use Rattle.std.specs.Prelude.{ℕ, Bool, true, false, List, [], ◌∷◌, Option, Some, None}
+use Rattle.std.specs.Prelude.{ℕ, true, false, List, [], ◌∷◌, None}
 use Rattle.amr_frame.specs.declared.profile.Profile.{Profile}
 use Rattle.spec_listing.specs.Listing.{Listing, list_meaning, listing}
-use Rattle.spec_modes.specs.Desk.{DeskPlan}
 use Rattle.spec_modes.specs.ModeSets.{all_modes, greatest}
 use Rattle.spec_run.specs.Meanings.{Meaning}
-use Rattle.worked_rows.specs.Words.{packed, rtp, zeros}
+use Rattle.worked_rows.specs.Words.{packed, rtp}
 
 -- a listing of any payload type, with a desk of all modes that starts at the greatest
 abbrev pub listing_of : Profile → Listing

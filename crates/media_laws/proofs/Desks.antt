@@ -1,13 +1,11 @@
 -- The mode desk: what its mode keeps to.
-use Rattle.std.proofs.Common.{◌≡◌, ◌≢◌, ℕ, zero, suc, ◌+◌, ◌%◌, ◌<◌, ◌≤◌, ◌⊎◌, inl, inr, ⊎_elim, min, max, Bool, true, false, cond, ◌||◌, nat_eq, nat_lt, nat_le, List, [], ◌∷◌, ◌++◌, length, filter, fold, sym, refl, ap, ◌∙◌, arith, subst, eqb-true, eq-eqb, ltb-true, ltb-false, lt-ltb, le_of_lt, zero-add}
-use Rattle.std.specs.List.{AllByRecursion, list_any}
+use Rattle.std.proofs.Common.{◌≡◌, ◌≢◌, ℕ, ◌+◌, ◌%◌, ◌<◌, ◌≤◌, ◌⊎◌, inl, inr, ⊎_elim, min, max, Bool, true, false, cond, ◌||◌, nat_eq, nat_lt, nat_le, List, [], ◌∷◌, ◌++◌, filter, fold, sym, refl, ap, ◌∙◌, arith, subst, eqb-true, eq-eqb, ltb-true, ltb-false, lt-ltb, le_of_lt, zero-add}
+use Rattle.std.specs.List.{AllByRecursion}
 use Rattle.std.proofs.lemmas.Bool.{cases_lt}
 use Rattle.std.proofs.lemmas.List.Sums.{fold-append}
-use Rattle.std.proofs.lemmas.List.Elements.{filter-append}
-use Rattle.amr_frame.specs.declared.codec.Codec.{Codec}
 use Rattle.media_laws.specs.Between.{IsBetween}
-use Rattle.spec_modes.specs.Desk.{Desk, DeskPlan, Event, Hear, IsDeskPlan, Step, after, aimed, desk, fresh, greatest_or, may_move, next_mode, steps_in, toward}
-use Rattle.spec_modes.specs.ModeSets.{IsModeSet, has}
+use Rattle.spec_modes.specs.Desk.{Desk, DeskPlan, Event, Hear, IsDeskPlan, Step, after, aimed, desk, fresh, greatest_or, may_move, steps_in, toward}
+use Rattle.spec_modes.specs.ModeSets.{has}
 use Rattle.spec_modes.specs.Requests.{request_in}
 use Rattle.spec_modes.specs.declared.request.Request.{Request}
 use Rattle.spec_modes.specs.declared.request.Request.TheVariants as request

@@ -1,12 +1,12 @@
 -- Numbers that are printed and read again.
-use Rattle.std.proofs.Common.{◌≡◌, ◌⊎◌, ⊎_elim, inl, inr, nat_eq, ℕ, ◌+◌, ◌-◌, ◌<◌, ◌≤◌, ◌^◌, Bool, true, false, cond, ◌&&◌, List, [], ◌∷◌, ◌++◌, length, map, sym, refl, ap, ◌∙◌, arith, ne_eqb, le-leb, filter_map, flat_map, option_map, Option, Some, None, decimal, codes, eq-eqb}
-use Rattle.std.specs.List.{AllByRecursion, slice_split, join_by, cons_option}
+use Rattle.std.proofs.Common.{◌≡◌, ◌⊎◌, ⊎_elim, inl, inr, nat_eq, ℕ, ◌<◌, ◌≤◌, ◌^◌, true, false, cond, ◌&&◌, List, [], ◌∷◌, ◌++◌, length, map, refl, ap, ◌∙◌, arith, ne_eqb, le-leb, filter_map, flat_map, Some, None, decimal, codes}
+use Rattle.std.specs.List.{AllByRecursion, cons_option}
 use Rattle.std.specs.Str.{all_ascii_digits}
 use Rattle.std.specs.Str.Parse.{AllDigits, digits_value}
 use Rattle.std.proofs.lemmas.Fmt.{decimal_is_IsNumeral, decimal_nonempty, length-decimal-le}
 use Rattle.std.proofs.lemmas.Str.Parse.{digit_from_value, numerals_by_value, tells_all_ascii_digits}
 use Rattle.media_laws.proofs.Texts.{AreInk, IsInk, IsWhole, splits, trimmed_ink}
-use Rattle.spec_media.specs.Pieces.{is_comma, is_empty, is_semicolon, items, number_in, trimmed}
+use Rattle.spec_media.specs.Pieces.{is_comma, is_semicolon, items, number_in, trimmed}
 use Rattle.spec_media.specs.Printing.{mode_list}
 
 -- a digit, and what a list of numbers is made of

@@ -1,18 +1,16 @@
 -- What is printed of media parameters is read as the same parameters.
-use Rattle.std.proofs.Common.{◌≡◌, ℕ, zero, suc, ◌+◌, ◌<◌, ◌≤◌, ◌^◌, Bool, true, false, not, cond, ◌&&◌, ◌||◌, nat_eq, List, [], ◌∷◌, ◌++◌, length, map, take, filter, filter_map, find, sym, refl, ap, ◌∙◌, arith, eqb-true, option_map, option_and_then, unwrap_or, Option, Some, None, Result, Ok, Err, IfSome, is_some, codes, decimal, slice_index_or}
-use Rattle.std.specs.List.{AllByRecursion, range_with_len, join_by}
+use Rattle.std.proofs.Common.{◌≡◌, ℕ, ◌+◌, ◌<◌, ◌≤◌, ◌^◌, Bool, true, false, not, cond, ◌&&◌, ◌||◌, nat_eq, List, [], ◌∷◌, length, take, filter, filter_map, sym, refl, ap, ◌∙◌, arith, eqb-true, option_map, option_and_then, unwrap_or, Option, Some, None, Ok, IfSome, is_some, decimal, slice_index_or}
 use Rattle.amr_frame.specs.First.{first, when}
 use Rattle.amr_frame.specs.declared.codec.Codec.{Codec}
-use Rattle.media_laws.proofs.Numbers.{AreShort, decimal_ink, items_printed, list_value, number_printed, numbers_printed}
+use Rattle.media_laws.proofs.Numbers.{decimal_ink, items_printed, list_value, number_printed, numbers_printed}
 use Rattle.media_laws.proofs.Refusals.{AreApart, clean_at, clean_rows, are_pieces, none_before}
-use Rattle.media_laws.proofs.Rows.{IsRow, one_found, piece, rows_are_rows, same, spell, spelled}
+use Rattle.media_laws.proofs.Rows.{one_found, rows_are_rows, same, spell, spelled}
 use Rattle.media_laws.proofs.Texts.{joined_pieces, trimmed_ink}
 use Rattle.media_laws.proofs.Values.{all_allowed, short_modes}
-use Rattle.spec_media.specs.Params.{AreParameters, Parameters, Row, rows, octet_align, mode_set, period, capability, neighbor, crc, sorting, interleaving, max_red, is_named, needs_alignment}
-use Rattle.spec_media.specs.Pieces.{items, number_in, pieces, trimmed, value_of}
-use Rattle.spec_media.specs.Printing.{mode_list, on, other_than_1, printed, printed_value}
+use Rattle.spec_media.specs.Params.{AreParameters, Parameters, Row, rows, octet_align, mode_set, period, capability, neighbor, crc, sorting, interleaving, max_red, needs_alignment}
+use Rattle.spec_media.specs.Pieces.{number_in, pieces, trimmed, value_of}
+use Rattle.spec_media.specs.Printing.{mode_list, on, printed, printed_value}
 use Rattle.spec_media.specs.Reading.{answered, asks_alignment, given, is_given, modes_of, parameters_in, parameters_of, piece_refusal, refusal}
-use Rattle.spec_media.specs.declared.refusal.FmtpRefusal.{FmtpRefusal}
 use Rattle.spec_media.specs.declared.refusal.FmtpRefusal.TheVariants as why
 use Rattle.spec_modes.specs.ModeSets.{IsModeSet, modes_among}
 

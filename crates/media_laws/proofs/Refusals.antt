@@ -1,5 +1,5 @@
 -- Pieces that are printed aren't refused.
-use Rattle.std.proofs.Common.{◌≡◌, ℕ, zero, suc, ◌+◌, ◌-◌, ◌<◌, ◌≤◌, Bool, true, false, not, cond, ◌||◌, List, [], ◌∷◌, ◌++◌, length, map, take, sym, refl, ap, ◌∙◌, arith, subst, append-nil, append_assoc, filter_map, option_map, Option, Some, None, slice_index_or}
+use Rattle.std.proofs.Common.{◌≡◌, ℕ, zero, suc, ◌+◌, ◌<◌, ◌≤◌, Bool, true, false, not, ◌||◌, List, [], ◌∷◌, ◌++◌, length, map, take, sym, refl, ap, ◌∙◌, arith, subst, append-nil, append_assoc, option_map, Option, Some, None, slice_index_or}
 use Rattle.std.specs.List.{AllByRecursion, list_any, cons_option, range_with_len}
 use Rattle.std.specs.Str.{str_eq_ignore_ascii_case}
 use Rattle.std.proofs.lemmas.List.Elements.{filter_map-append}
@@ -10,9 +10,8 @@ use Rattle.media_laws.proofs.Texts.{IsPiece, trimmed_ink}
 use Rattle.media_laws.proofs.Numbers.{all_append}
 use Rattle.media_laws.proofs.Values.{AllowsAll, IsAllowed}
 use Rattle.spec_media.specs.Params.{Row, is_allowed}
-use Rattle.spec_media.specs.Pieces.{is_empty, name_of, value_of}
+use Rattle.spec_media.specs.Pieces.{is_empty}
 use Rattle.spec_media.specs.Reading.{piece_refusal, row_refusal, same_name}
-use Rattle.spec_media.specs.declared.refusal.FmtpRefusal.{FmtpRefusal}
 use Rattle.spec_media.specs.declared.refusal.FmtpRefusal.TheVariants as why
 
 -- the first answer is behind those that aren't there

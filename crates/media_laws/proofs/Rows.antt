@@ -1,13 +1,11 @@
 -- What is to know of each row of the table of parameters, and where pieces of rows are found.
-use Rattle.std.proofs.Common.{◌≡◌, ℕ, ◌+◌, ◌<◌, Bool, true, false, not, cond, ◌||◌, List, [], ◌∷◌, ◌++◌, length, take, sym, refl, ap, ◌∙◌, arith, append-nil, length-append, ne_eqb, ltb-true, nat_lt, nat_eq, ◌&&◌, filter, filter_map, find, option_map, Option, Some, None, codes}
-use Rattle.std.specs.List.{AllByRecursion, list_all, list_any, cons_option}
+use Rattle.std.proofs.Common.{◌≡◌, ℕ, ◌<◌, Bool, true, false, not, cond, List, [], ◌∷◌, ◌++◌, length, sym, refl, ap, ◌∙◌, arith, length-append, ne_eqb, ltb-true, nat_lt, ◌&&◌, filter, filter_map, find, option_map, Option, Some, None, codes}
+use Rattle.std.specs.List.{AllByRecursion, list_all, cons_option}
 use Rattle.std.specs.Str.{str_eq_ignore_ascii_case}
-use Rattle.std.proofs.lemmas.List.Elements.{filter_map-append}
-use Rattle.media_laws.proofs.Texts.{AreInk, IsInk, IsWhole, IsPiece, trimmed_ink}
+use Rattle.media_laws.proofs.Texts.{AreInk, IsInk, IsWhole, IsPiece}
 use Rattle.media_laws.proofs.Numbers.{IsValue, all_append}
 use Rattle.spec_media.specs.Params.{Row, is_named, row_of, rows, octet_align, mode_set, period, capability, neighbor, crc, sorting, interleaving, max_red}
 use Rattle.spec_media.specs.Pieces.{is_empty, is_semicolon, name_of, trimmed, value_of}
-use Rattle.spec_media.specs.Reading.{same_name}
 
 -- a row with a value as it is printed
 abbrev pub spell : Row → List ℕ → List ℕ

@@ -1,5 +1,5 @@
 -- Texts without white, and the parts of texts that were joined.
-use Rattle.std.proofs.Common.{◌≡◌, ℕ, zero, suc, ◌+◌, ◌-◌, ◌<◌, ◌≤◌, Bool, true, false, not, cond, ◌||◌, List, [], ◌∷◌, ◌++◌, length, map, take, drop, reverse, get_or, sym, refl, ap, ◌∙◌, arith, append-nil, ne_eqb, take_all, filter, flat_map, codes, slice_index_or}
+use Rattle.std.proofs.Common.{◌≡◌, ℕ, zero, suc, ◌+◌, ◌-◌, ◌<◌, Bool, true, false, not, cond, ◌||◌, List, [], ◌∷◌, ◌++◌, length, map, take, drop, get_or, refl, ap, ◌∙◌, arith, append-nil, ne_eqb, take_all, filter, flat_map, codes}
 use Rattle.std.specs.List.{AllByRecursion, slice_split, onto_first, prefix_len, suffix_len, join_by}
 use Rattle.std.proofs.lemmas.List.Sums.{suffix_len_is}
 use Rattle.spec_media.specs.Pieces.{is_white, is_semicolon, is_empty, trimmed, pieces}

@@ -1,14 +1,13 @@
 -- The values that are printed: each is one that its parameter may have.
-use Rattle.std.proofs.Common.{◌≡◌, ℕ, ◌+◌, ◌<◌, ◌≤◌, ◌^◌, Bool, true, false, not, cond, ◌&&◌, nat_eq, nat_le, List, [], ◌∷◌, ◌++◌, length, map, filter, sym, refl, ap, ◌∙◌, arith, subst, le-leb, option_map, Option, Some, None, IfSome, codes, decimal}
+use Rattle.std.proofs.Common.{◌≡◌, ℕ, ◌<◌, ◌≤◌, ◌^◌, Bool, true, false, cond, ◌&&◌, nat_eq, List, [], ◌∷◌, map, filter, refl, ap, ◌∙◌, arith, subst, le-leb, option_map, Option, Some, None, IfSome, codes, decimal}
 use Rattle.std.specs.List.{AllByRecursion, list_all}
-use Rattle.amr_frame.specs.First.{when}
 use Rattle.amr_frame.specs.declared.codec.Codec.{Codec}
 use Rattle.amr_frame.specs.declared.codec.Codec.TheVariants.{Amr, AmrWb}
 use Rattle.media_laws.proofs.Numbers.{AreShort, IsValue, items_printed, list_value, number_printed, number_value}
 use Rattle.spec_media.specs.Params.{AreParameters, Parameters, Range, Modes, Row, Values, is_allowed, is_in, is_mode_number, rows}
 use Rattle.spec_media.specs.Pieces.{number_in}
 use Rattle.spec_media.specs.Printing.{mode_list, on, other_than_1, printed_value}
-use Rattle.spec_modes.specs.ModeSets.{IsModeSet, all_modes, has, is_mode, modes_among}
+use Rattle.spec_modes.specs.ModeSets.{IsModeSet, all_modes, has, is_mode}
 
 -- a mode of the codec, with as few digits as a number may have
 abbrev IsShortMode : Codec → ℕ → Type 0

@@ -1,5 +1,5 @@
 -- The words of the worked examples of offers and answers.
-use Rattle.std.specs.Prelude.{ℕ, Bool, true, false, List, [], ◌∷◌, ◌++◌, map, Option, Some, None, codes}
+use Rattle.std.specs.Prelude.{ℕ, true, List, [], ◌∷◌, ◌++◌, map, Some, codes}
 use Rattle.amr_frame.specs.declared.codec.Codec.TheVariants.{Amr, AmrWb}
 use Rattle.media_rows.specs.Words.{aligned, plain}
 use Rattle.spec_media.specs.Params.{Parameters}

@@ -1,5 +1,5 @@
 -- The words of the worked examples of media parameters and modes.
-use Rattle.std.specs.Prelude.{ℕ, ◌+◌, Bool, true, false, List, [], ◌∷◌, length, map, take, Option, Some, None}
+use Rattle.std.specs.Prelude.{ℕ, ◌+◌, Bool, true, false, List, [], ◌∷◌, length, map, take, None}
 use Rattle.std.specs.List.{range_with_len}
 use Rattle.amr_frame.specs.declared.codec.Codec.TheVariants.{Amr}
 use Rattle.spec_media.specs.Params.{Parameters}

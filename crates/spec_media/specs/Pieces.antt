@@ -1,6 +1,6 @@
 -- The pieces of a text of media parameters (RFC 4566, 6, and RFC 4867, 8.3: name=value, with `;` between them).
 -- Which white may stand where is this project's own.
-use Rattle.std.specs.Prelude.{ℕ, ◌-◌, Bool, not, ◌&&◌, ◌||◌, cond, nat_eq, nat_le, List, length, map, filter, take, drop, Option, Some, None, codes}
+use Rattle.std.specs.Prelude.{ℕ, ◌-◌, Bool, not, ◌&&◌, ◌||◌, cond, nat_eq, nat_le, List, length, map, filter, take, drop, Option, Some, None}
 use Rattle.std.specs.List.{slice_split, before_first, after_first, prefix_len, suffix_len}
 use Rattle.std.specs.Str.{all_ascii_digits}
 use Rattle.std.specs.Str.Parse.{digits_value}

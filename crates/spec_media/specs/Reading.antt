@@ -1,7 +1,7 @@
 -- Media parameters as a text gives them, and why others are refused (RFC 4867, 8.1 and 8.2). The order in which
 -- refusals are tested, F1 to F4, and that an explicit octet-align=0 beside what needs alignment is refused, are
 -- this project's own.
-use Rattle.std.specs.Prelude.{ℕ, Bool, false, not, cond, ◌&&◌, ◌||◌, nat_eq, List, [], ◌∷◌, ◌++◌, length, map, take, filter_map, find, slice_index_or, Option, Some, None, is_some, Result, Ok, Err, option_map, option_and_then}
+use Rattle.std.specs.Prelude.{ℕ, Bool, false, not, ◌&&◌, ◌||◌, nat_eq, List, [], ◌∷◌, ◌++◌, length, map, take, filter_map, find, slice_index_or, Option, Some, None, is_some, Result, Ok, Err, option_map, option_and_then}
 use Rattle.std.specs.List.{range_with_len, list_any}
 use Rattle.std.specs.Option.{unwrap_or}
 use Rattle.std.specs.Str.{str_eq_ignore_ascii_case}

@@ -1,9 +1,9 @@
 -- Answering the offer that a whole input is: what is put out, how it ends, and what is noted. This project's own.
-use Rattle.std.specs.Prelude.{ℕ, cond, nat_lt, List, [], ◌∷◌, ◌++◌, length, take, flat_map, Option, Some, None, Result, Ok, Err, codes, decimal}
-use Rattle.spec_media.specs.Params.{Row, row_for}
+use Rattle.std.specs.Prelude.{ℕ, cond, nat_lt, List, [], ◌++◌, length, flat_map, Option, Some, None, Result, Ok, Err, codes, decimal}
+use Rattle.spec_media.specs.Params.{row_for}
 use Rattle.spec_media.specs.declared.refusal.FmtpRefusal.{FmtpRefusal}
 use Rattle.spec_media.specs.declared.refusal.FmtpRefusal.TheVariants as fmtp
-use Rattle.spec_offer.specs.Answers.{Answer, Chosen, Wanted, answer_text, answer_to}
+use Rattle.spec_offer.specs.Answers.{Chosen, Wanted, answer_text, answer_to}
 use Rattle.spec_offer.specs.Offers.{Offer, offer_of}
 use Rattle.spec_offer.specs.declared.answer.RefusedType.{RefusedType}
 use Rattle.spec_offer.specs.declared.answer.Why.{Why}

@@ -1,6 +1,6 @@
 -- The answer to an offer (RFC 3264, 6; RFC 4867, 8.3): the first offered payload type that suits what is wanted. What
 -- suits, and in which order the reasons against a type are tested, are this project's own.
-use Rattle.std.specs.Prelude.{ℕ, Bool, true, false, not, ◌&&◌, nat_eq, nat_lt, List, [], ◌∷◌, ◌++◌, filter_map, find, flat_map, take_while, cond, Option, Some, None, is_some, is_none, option_map, bytes_eq, codes, decimal}
+use Rattle.std.specs.Prelude.{ℕ, Bool, true, false, not, ◌&&◌, nat_eq, nat_lt, List, [], ◌∷◌, ◌++◌, filter_map, find, flat_map, take_while, cond, Option, Some, None, is_none, option_map, bytes_eq, codes, decimal}
 use Rattle.std.specs.Option.{unwrap_or}
 use Rattle.amr_frame.specs.declared.codec.Codec.{Codec}
 use Rattle.amr_frame.specs.declared.codec.Codec.TheVariants.{Amr, AmrWb}

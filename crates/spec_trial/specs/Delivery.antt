@@ -1,6 +1,6 @@
 -- How the packets of a trial are delivered: at most one of them is held at a time, and goes out behind the next one that
 -- is delivered, or at the end. Ours.
-use Rattle.std.specs.Prelude.{ℕ, suc, ◌+◌, ◌%◌, ◌^◌, cond, nat_eq, List, [], ◌∷◌, ◌++◌, length, map, fold, zip, Option, Some, None}
+use Rattle.std.specs.Prelude.{ℕ, suc, ◌+◌, ◌%◌, ◌^◌, cond, nat_eq, List, [], ◌∷◌, ◌++◌, map, fold, zip, Option, Some, None}
 use Rattle.std.specs.List.{range_with_len}
 use Rattle.std.specs.Option.{option_to_list}
 use Rattle.spec_trial.specs.Draws.{after, drawn}

@@ -1,6 +1,6 @@
 -- What a trial puts out: three lines on the blocks made, the packets sent and delivered, and the storage file that is
 -- recorded of them. Ours.
-use Rattle.std.specs.Prelude.{ℕ, ◌%◌, ◌^◌, true, false, List, ◌++◌, length, map, None, codes, decimal, sum}
+use Rattle.std.specs.Prelude.{ℕ, ◌%◌, ◌^◌, false, List, ◌++◌, length, map, None, codes, decimal, sum}
 use Rattle.amr_frame.specs.Frames.{Frame}
 use Rattle.rtp_packet.specs.Written.{written}
 use Rattle.run_report.specs.Lines.{no_counts, record_line}

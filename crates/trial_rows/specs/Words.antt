@@ -1,5 +1,5 @@
 -- The words of the worked examples of trials.
-use Rattle.std.specs.Prelude.{ℕ, true, false, List, [], ◌∷◌, map, Option, Some}
+use Rattle.std.specs.Prelude.{ℕ, false, List, map}
 use Rattle.amr_frame.specs.Frames.{Frame}
 use Rattle.spec_sending.specs.declared.plan.SendPlan.{SendPlan}
 use Rattle.spec_trial.specs.Delivery.{Fate, Line, delivery}
