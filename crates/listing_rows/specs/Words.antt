@@ -11,14 +11,22 @@ abbrev pub listing_of : Profile → Listing
 listing_of p = record {
   profile = p;
   asked = None;
-  desk = record { codec = p.codec; modes = all_modes p.codec; neighbor = false; period = 1; start = greatest (all_modes p.codec) };
+  desk = record {
+    codec = p.codec;
+    modes = all_modes p.codec;
+    neighbor = false;
+    period = 1;
+    start = greatest (all_modes p.codec);
+  };
   bits = false;
 }
 
 -- the same with a desk of the modes 0, 2, 5 and 7 that moves to neighbours, once in so many steps
 abbrev pub stepping : ℕ → Listing
 stepping period = let l = listing_of packed in
-    record l { desk = record l.desk { modes = 0 ∷ 2 ∷ 5 ∷ 7 ∷ []; neighbor = true; period = period } }
+    record l {
+      desk = record l.desk { modes = 0 ∷ 2 ∷ 5 ∷ 7 ∷ []; neighbor = true; period = period };
+    }
 
 -- the listing of one record
 abbrev pub listed : Profile → List ℕ → List ℕ

@@ -1,5 +1,5 @@
-//! Worked examples of listings, computed on the definitions. Each is the contract of a function that does nothing; what
-//! is expected was worked out by hand.
+//! Worked examples of listings, computed on the definitions. Each is the contract of a function
+//! that does nothing; what is expected was worked out by hand.
 #![tactic(auto)]
 
 mod listings;

@@ -5,7 +5,8 @@ ghost use Rattle.spec_listing.specs.Listing.{listing};
 ghost use Rattle.std.specs.Prelude.{◌++◌, ◌∷◌, ◌≡◌, ◌^◌, Some, [], codes, true};
 ghost use Rattle.worked_rows.specs.Words.{aligned, interleaved, packed, rec, rtp, seven, zeros};
 
-/// How packets are listed: null, refused, of another type than the asked one, and with their fields.
+/// How packets are listed: null, refused, of another type than the asked one, and with their
+/// fields.
 pub fn listed_packets()
     ensures null { listing (listing_of packed) ([] ∷ [] ∷ []) ≡ codes "0 0 null\n1 0 null\n" }
     ensures h1 { listed packed (zeros 11) ≡ codes "0 11 refused=H1 have=11\n" }
@@ -39,7 +40,8 @@ pub fn listed_payloads()
         codes "0 19 pt=96 m=0 seq=0 ts=0 ssrc=00000000 cmr=15 mode=7 stride=1 index=0 blocks=1 frames=8/1\nbits 0 ab000cff10\n" }
 {}
 
-/// The modes that are listed. The desk hears the requests of the payloads that are read, and makes a step at each.
+/// The modes that are listed. The desk hears the requests of the payloads that are read, and
+/// makes a step at each.
 pub fn listed_modes()
     ensures neighbours { listing (stepping 1) (one (0x03 ∷ 0xC0 ∷ zeros 30) ∷ one seven ∷ one seven ∷ []) ≡ codes
         "0 44 pt=96 m=0 seq=0 ts=0 ssrc=00000000 cmr=0 mode=5 stride=1 index=0 blocks=1 frames=7/1\n1 44 pt=96 m=0 seq=0 ts=0 ssrc=00000000 cmr=15 mode=2 stride=1 index=0 blocks=1 frames=7/1\n2 44 pt=96 m=0 seq=0 ts=0 ssrc=00000000 cmr=15 mode=0 stride=1 index=0 blocks=1 frames=7/1\n" }

@@ -1,4 +1,5 @@
-//! Laws of media parameters, mode sets and the mode desk. Each is the contract of a function that does nothing.
+//! Laws of media parameters, mode sets and the mode desk. Each is the contract of a function that
+//! does nothing.
 #![tactic(auto)]
 
 mod desk;

@@ -23,12 +23,15 @@ map_to pt name rate channels = record { pt = pt; name = name; rate = rate; chann
 -- the worked offer, with its ninth line, and what stands in the place of its tenth
 abbrev pub offer_with : List ℕ → List ℕ → List ℕ
 offer_with ninth tenth =
-    codes "v=0\no=- 1 1 IN IP4 192.0.2.1\ns=-\nc=IN IP4 192.0.2.1\nt=0 0\nm=audio 49170 RTP/AVP 97 98 101\n"
-    ++ codes "a=rtpmap:97 AMR-WB/16000\na=fmtp:97 mode-set=0,1,2; max-red=0\n" ++ ninth ++ codes "\n" ++ tenth
+    codes "v=0\no=- 1 1 IN IP4 192.0.2.1\ns=-\nc=IN IP4 192.0.2.1\nt=0 0\n"
+    ++ codes "m=audio 49170 RTP/AVP 97 98 101\n"
+    ++ codes "a=rtpmap:97 AMR-WB/16000\na=fmtp:97 mode-set=0,1,2; max-red=0\n"
+    ++ ninth ++ codes "\n" ++ tenth
     ++ codes "a=rtpmap:101 telephone-event/8000\na=fmtp:101 0-15\na=ptime:20\na=maxptime:240\n"
 
 abbrev pub worked_offer : List ℕ
-worked_offer = offer_with (codes "a=rtpmap:98 AMR/8000") (codes "a=fmtp:98 mode-set=0,2,5,7; octet-align=1\n")
+worked_offer = offer_with (codes "a=rtpmap:98 AMR/8000")
+    (codes "a=fmtp:98 mode-set=0,2,5,7; octet-align=1\n")
 
 -- a type of each codec with these parameters
 abbrev pub plain_type : Parameters → OfferedType
@@ -40,7 +43,8 @@ wide_type p = record { pt = 97; codec = AmrWb; channels = 1; parameters = p }
 -- what the worked offer offers, with these parameters of its second type
 abbrev pub typed : Parameters → Offer
 typed p = record {
-  types = wide_type (record plain { modes = Some (0 ∷ 1 ∷ 2 ∷ []); max_red = Some 0 }) ∷ plain_type p ∷ [];
+  types = wide_type (record plain { modes = Some (0 ∷ 1 ∷ 2 ∷ []); max_red = Some 0 })
+      ∷ plain_type p ∷ [];
   protocol = codes "RTP/AVP";
   ptime = Some 20;
   maxptime = Some 240;
@@ -51,7 +55,14 @@ worked = typed (record aligned { modes = Some (0 ∷ 2 ∷ 5 ∷ 7 ∷ []) })
 
 -- AMR of one channel, in all modes and with all that the formats can do; and the same in some modes
 abbrev pub wanted : Wanted
-wanted = record { codec = Amr; channels = 1; modes = all_modes Amr; crc = true; sorting = true; interleaving = 65535 }
+wanted = record {
+  codec = Amr;
+  channels = 1;
+  modes = all_modes Amr;
+  crc = true;
+  sorting = true;
+  interleaving = 65535;
+}
 
 abbrev pub modes_wanted : List ℕ → Wanted
 modes_wanted modes = record wanted { modes = modes }

@@ -22,9 +22,16 @@ plain = record {
 abbrev pub aligned : Parameters
 aligned = record plain { octet_aligned = true }
 
--- a desk of the modes 0, 2, 5 and 7 that starts at 7 and may move at each step, to a neighbour alone or not
+-- a desk of the modes 0, 2, 5 and 7 that starts at 7 and may move at each step, to a neighbour
+-- alone or not
 abbrev pub quick : Bool → DeskPlan
-quick neighbor = record { codec = Amr; modes = 0 ∷ 2 ∷ 5 ∷ 7 ∷ []; neighbor = neighbor; period = 1; start = 7 }
+quick neighbor = record {
+  codec = Amr;
+  modes = 0 ∷ 2 ∷ 5 ∷ 7 ∷ [];
+  neighbor = neighbor;
+  period = 1;
+  start = 7;
+}
 
 -- the same that may move at every other step
 abbrev pub slow : Bool → DeskPlan
@@ -32,4 +39,5 @@ slow neighbor = record (quick neighbor) { period = 2 }
 
 -- the mode after each of these requests
 abbrev pub modes_told : DeskPlan → List ℕ → List ℕ
-modes_told plan cmrs = map (λ k. mode_after plan (take (k + 1) cmrs)) (range_with_len 0 (length cmrs))
+modes_told plan cmrs =
+    map (λ k. mode_after plan (take (k + 1) cmrs)) (range_with_len 0 (length cmrs))

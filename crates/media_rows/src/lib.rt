@@ -1,5 +1,6 @@
-//! Worked examples of media parameters, offers, answers and mode sets, computed on the definitions. Each is the
-//! contract of a function that does nothing; what is expected was worked out by hand.
+//! Worked examples of media parameters, offers, answers and mode sets, computed on the
+//! definitions. Each is the contract of a function that does nothing; what is expected was worked
+//! out by hand.
 #![tactic(auto)]
 
 mod answers;

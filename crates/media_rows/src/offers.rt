@@ -8,7 +8,8 @@ ghost use Rattle.spec_offer.specs.Offers.{offer_of};
 ghost use Rattle.spec_offer.specs.declared.refusal.OfferRefusal.TheVariants as why;
 ghost use Rattle.std.specs.Prelude.{◌++◌, ◌∷◌, ◌≡◌, Err, None, Ok, Some, [], codes, true};
 
-/// The lines of a text (RFC 4566, 5): a CR at the end is dropped, and nothing behind the last LF is no line.
+/// The lines of a text (RFC 4566, 5): a CR at the end is dropped, and nothing behind the last LF
+/// is no line.
 pub fn lines_of_texts()
     ensures none { texts [] ≡ [] }
     ensures ended { texts (codes "v=0\r\ns=-\n") ≡ codes "v=0" ∷ codes "s=-" ∷ [] }

@@ -1,5 +1,5 @@
--- The listing of a log of packets (RFC 4571, 2): for each record a line, in order. What is in a line and how it is
--- written is this project's own.
+-- The listing of a log of packets (RFC 4571, 2): for each record a line, in order. What is in a
+-- line and how it is written is this project's own.
 use Rattle.std.specs.Prelude.{ℕ, ◌+◌, Bool, cond, List, [], ◌∷◌, ◌++◌, length, map, take, flat_map, slice_index_or, Option, Some, None, Result, Ok, Err, codes, decimal}
 use Rattle.std.specs.List.{range_with_len}
 use Rattle.amr_bits.specs.Bits.{nat, filled}
@@ -19,17 +19,19 @@ use Rattle.spec_run.specs.LogRuns.{RecordsJob, log_meaning}
 use Rattle.spec_run.specs.Meanings.{Meaning}
 use Rattle.spec_session.specs.Packets.{is_asked, packets_of}
 
--- what a listing goes by: the format, the payload type or any, the mode desk, and whether the bits of frames are
--- listed
+-- what a listing goes by: the format, the payload type or any, the mode desk, and whether the
+-- bits of frames are listed
 pub record Listing : Type 0 where
   pub profile : Profile
   pub asked : Option ℕ
   pub desk : DeskPlan
   pub bits : Bool
 
--- the mode of the desk after these records: at each payload that is read it hears the request and makes a step
+-- the mode of the desk after these records: at each payload that is read it hears the request and
+-- makes a step
 abbrev pub mode_in : Listing → List (List ℕ) → ℕ
-mode_in l records = mode_after l.desk (map (λ x. x.value.cmr) (packets_of l.profile l.asked records))
+mode_in l records =
+    mode_after l.desk (map (λ x. x.value.cmr) (packets_of l.profile l.asked records))
 
 -- a refusal at the end of a line
 abbrev refused : List ℕ → List ℕ
@@ -63,15 +65,22 @@ record_part l mode (o ∷ octets) = packet_part l mode (rtp_of (o ∷ octets))
 -- what record n of a log is listed as: its number, its length, and what it is
 abbrev pub listed_record : Listing → List (List ℕ) → ℕ → List ℕ
 listed_record l records n = let octets = slice_index_or records n [] in
-    decimal n ++ codes " " ++ decimal (length octets) ++ record_part l (mode_in l (take (n + 1) records)) octets
+    decimal n ++ codes " " ++ decimal (length octets)
+    ++ record_part l (mode_in l (take (n + 1) records)) octets
 
 -- the listing of records
 abbrev pub listing : Listing → List (List ℕ) → List ℕ
 listing l records = flat_map (listed_record l records) (range_with_len 0 (length records))
 
--- what listing does with records: the lines of each are out before the next is looked for; nothing is counted or noted
+-- what listing does with records: the lines of each are out before the next is looked for;
+-- nothing is counted or noted
 abbrev pub list_job : Listing → RecordsJob
-list_job l = record { early = listing l; whole = listing l; counts = λ records. no_counts; lines = lines.None }
+list_job l = record {
+  early = listing l;
+  whole = listing l;
+  counts = λ records. no_counts;
+  lines = lines.None;
+}
 
 -- what it means, where at most `limit` octets are taken
 abbrev pub list_meaning : Listing → ℕ → Meaning

@@ -1,5 +1,5 @@
--- How the refusals of packets (RFC 3550, 5.1) and of payloads (RFC 4867, 4.3 and 4.4) are listed: the name of the
--- rule, and behind it what the refusal names. These texts are this project's own.
+-- How the refusals of packets (RFC 3550, 5.1) and of payloads (RFC 4867, 4.3 and 4.4) are listed:
+-- the name of the rule, and behind it what the refusal names. These texts are this project's own.
 use Rattle.std.specs.Prelude.{ℕ, List, ◌++◌, codes, decimal}
 use Rattle.spec_packet.specs.declared.refusal.RtpRefusal.{RtpRefusal}
 use Rattle.spec_packet.specs.declared.refusal.RtpRefusal.TheVariants as rtp
@@ -22,12 +22,16 @@ rtp_refusal_text rtp.Padding = codes "H5"
 abbrev pub payload_refusal_text : PayloadRefusal → List ℕ
 payload_refusal_text why.Empty = codes "P1"
 payload_refusal_text why.HeaderShort = codes "P2"
-payload_refusal_text (why.IndexAboveLength ill ilp) = codes "P3" ++ field (codes "ill") ill ++ field (codes "ilp") ilp
+payload_refusal_text (why.IndexAboveLength ill ilp) =
+    codes "P3" ++ field (codes "ill") ill ++ field (codes "ilp") ilp
 payload_refusal_text (why.TocUnended entries) = codes "P4" ++ field (codes "entries") entries
-payload_refusal_text (why.ReservedType entry ft) = codes "P5" ++ field (codes "entry") entry ++ field (codes "ft") ft
+payload_refusal_text (why.ReservedType entry ft) =
+    codes "P5" ++ field (codes "entry") entry ++ field (codes "ft") ft
 payload_refusal_text why.TooManyBlocks = codes "P6"
 payload_refusal_text (why.ChannelRest entries) = codes "P7" ++ field (codes "entries") entries
 payload_refusal_text (why.GroupTooLarge blocks length) =
     codes "P8" ++ field (codes "blocks") blocks ++ field (codes "length") length
-payload_refusal_text (why.BodyShort need have) = codes "P9" ++ field (codes "need") need ++ field (codes "have") have
-payload_refusal_text (why.BodyLong need have) = codes "P10" ++ field (codes "need") need ++ field (codes "have") have
+payload_refusal_text (why.BodyShort need have) =
+    codes "P9" ++ field (codes "need") need ++ field (codes "have") have
+payload_refusal_text (why.BodyLong need have) =
+    codes "P10" ++ field (codes "need") need ++ field (codes "have") have

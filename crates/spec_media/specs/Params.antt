@@ -1,5 +1,5 @@
--- The media parameters (RFC 4867, 8.1 and 8.2): their names and the values that each may have. The range of
--- `interleaving` is this project's own.
+-- The media parameters (RFC 4867, 8.1 and 8.2): their names and the values that each may have.
+-- The range of `interleaving` is this project's own.
 use Rattle.std.specs.Prelude.{◌≡◌, ◌≤◌, ◌<◌, ◌^◌, ℕ, Bool, false, not, ◌&&◌, ◌||◌, nat_le, List, [], ◌∷◌, find, Option, Some, None, is_some, IfSome, codes}
 use Rattle.std.specs.List.{list_all}
 use Rattle.std.specs.Str.{str_eq_ignore_ascii_case}
@@ -53,7 +53,9 @@ max_red = row param.MaxRed (codes "max-red") (Range 0 65535)
 
 -- the table
 abbrev pub rows : List Row
-rows = octet_align ∷ mode_set ∷ period ∷ capability ∷ neighbor ∷ crc ∷ sorting ∷ interleaving ∷ max_red ∷ []
+rows =
+    octet_align ∷ mode_set ∷ period ∷ capability ∷ neighbor ∷ crc ∷ sorting ∷ interleaving
+    ∷ max_red ∷ []
 
 -- the row of a parameter
 abbrev pub row_for : Param → Row
@@ -87,7 +89,8 @@ is_mode_number codec (Some n) = is_mode codec n
 -- whether a value is one of these: a number has 1 to 5 digits
 abbrev pub is_allowed : Codec → Values → List ℕ → Bool
 is_allowed codec (Range least greatest) value = is_in least greatest (number_in 5 value)
-is_allowed codec Modes value = list_all (λ item. is_mode_number codec (number_in 5 item)) (items value)
+is_allowed codec Modes value =
+    list_all (λ item. is_mode_number codec (number_in 5 item)) (items value)
 
 -- what the parameters of one payload type say; a set of modes is given by its modes, rising
 pub record Parameters : Type 0 where

@@ -1,5 +1,5 @@
--- The pieces of a text of media parameters (RFC 4566, 6, and RFC 4867, 8.3: name=value, with `;` between them).
--- Which white may stand where is this project's own.
+-- The pieces of a text of media parameters (RFC 4566, 6, and RFC 4867, 8.3: name=value, with `;`
+-- between them). Which white may stand where is this project's own.
 use Rattle.std.specs.Prelude.{ℕ, ◌-◌, Bool, not, ◌&&◌, ◌||◌, cond, nat_eq, nat_le, List, length, map, filter, take, drop, Option, Some, None}
 use Rattle.std.specs.List.{slice_split, before_first, after_first, prefix_len, suffix_len}
 use Rattle.std.specs.Str.{all_ascii_digits}
@@ -40,7 +40,8 @@ value_of piece = trimmed (after_first is_equals piece)
 
 -- the number that 1 to `most` decimal digits stand for; leading zeros are allowed
 abbrev pub number_in : ℕ → List ℕ → Option ℕ
-number_in most text = cond (nat_le 1 (length text) && (nat_le (length text) most && all_ascii_digits text))
+number_in most text = cond
+    (nat_le 1 (length text) && (nat_le (length text) most && all_ascii_digits text))
     (Some (digits_value 10 text)) None
 
 -- the items of a list, split at each comma and trimmed

@@ -1,5 +1,6 @@
--- Media parameters as they are printed (RFC 4867, 8.3): those that aren't at their defaults, in the order of
--- the table, with `; ` between them. The order and the spaces are this project's own.
+-- Media parameters as they are printed (RFC 4867, 8.3): those that aren't at their defaults, in
+-- the order of the table, with `; ` between them. The order and the spaces are this project's
+-- own.
 use Rattle.std.specs.Prelude.{ℕ, Bool, cond, nat_eq, List, ◌++◌, filter_map, Option, Some, None, option_map, codes, decimal}
 use Rattle.std.specs.List.{join_by}
 use Rattle.amr_frame.specs.First.{when}

@@ -1,6 +1,6 @@
--- Media parameters as a text gives them, and why others are refused (RFC 4867, 8.1 and 8.2). The order in which
--- refusals are tested, F1 to F4, and that an explicit octet-align=0 beside what needs alignment is refused, are
--- this project's own.
+-- Media parameters as a text gives them, and why others are refused (RFC 4867, 8.1 and 8.2). The
+-- order in which refusals are tested, F1 to F4, and that an explicit octet-align=0 beside what
+-- needs alignment is refused, are this project's own.
 use Rattle.std.specs.Prelude.{ℕ, Bool, false, not, ◌&&◌, ◌||◌, nat_eq, List, [], ◌∷◌, ◌++◌, length, map, take, filter_map, find, slice_index_or, Option, Some, None, is_some, Result, Ok, Err, option_map, option_and_then}
 use Rattle.std.specs.List.{range_with_len, list_any}
 use Rattle.std.specs.Option.{unwrap_or}
@@ -47,7 +47,8 @@ asks_alignment ps = is_given crc 1 ps || is_given sorting 1 ps || is_some (given
 -- why pieces are refused: the first piece that is, and then F4
 abbrev pub refusal : Codec → List (List ℕ) → Option FmtpRefusal
 refusal codec ps = first (
-    map (λ k. piece_refusal codec (take k ps) (slice_index_or ps k [])) (range_with_len 0 (length ps))
+    map (λ k. piece_refusal codec (take k ps) (slice_index_or ps k []))
+    (range_with_len 0 (length ps))
     ++ when (is_given octet_align 0 ps && asks_alignment ps) why.Contradiction ∷ [])
 
 -- the modes of a list, as a set
@@ -75,4 +76,5 @@ answered (Some r) p = Err r
 
 -- what a text gives for a codec, or why it is refused
 abbrev pub parameters_of : Codec → List ℕ → Result Parameters FmtpRefusal
-parameters_of codec text = let ps = pieces text in answered (refusal codec ps) (parameters_in codec ps)
+parameters_of codec text =
+    let ps = pieces text in answered (refusal codec ps) (parameters_in codec ps)

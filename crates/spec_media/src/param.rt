@@ -1,4 +1,5 @@
-/// The media parameters that are read (RFC 4867, 8.1 and 8.2), in the order in which they are printed.
+/// The media parameters that are read (RFC 4867, 8.1 and 8.2), in the order in which they are
+/// printed.
 #[derive(Clone, Copy, Debug, PartialEq, Eq)]
 pub enum Param {
     /// `octet-align`

@@ -1,8 +1,8 @@
 use crate::param::Param;
 use thiserror::Error;
 
-/// Why a text of media parameters is refused. Its pieces are tested from the left, each by F1 to F3 in this
-/// order, and F4 after all of them.
+/// Why a text of media parameters is refused. Its pieces are tested from the left, each by F1 to
+/// F3 in this order, and F4 after all of them.
 #[derive(Clone, Copy, Debug, PartialEq, Eq, Error)]
 pub enum FmtpRefusal {
     /// F1: a piece has no name.

@@ -1,6 +1,7 @@
--- The mode desk: the mode that a sender would send, step by step, by the requests that it hears. The rules on
--- neighbours and periods are those of RFC 4867, 8.1 (mode-change-neighbor, mode-change-period); that a step is
--- a payload, and the mode a request leads to, are this project's own.
+-- The mode desk: the mode that a sender would send, step by step, by the requests that it hears.
+-- The rules on neighbours and periods are those of RFC 4867, 8.1 (mode-change-neighbor,
+-- mode-change-period); that a step is a payload, and the mode a request leads to, are this
+-- project's own.
 use Rattle.std.specs.Prelude.{◌≡◌, ◌≤◌, ℕ, suc, ◌%◌, min, max, cond, Bool, true, false, nat_eq, nat_lt, nat_le, List, [], ◌∷◌, length, filter, fold, flat_map}
 use Rattle.amr_frame.specs.declared.codec.Codec.{Codec}
 use Rattle.spec_modes.specs.declared.request.Request.{Request}
@@ -8,8 +9,8 @@ use Rattle.spec_modes.specs.declared.request.Request.TheVariants as request
 use Rattle.spec_modes.specs.ModeSets.{IsModeSet, has}
 use Rattle.spec_modes.specs.Requests.{request_in}
 
--- what a desk goes by: the codec, the set of its modes, whether it moves to a neighbour only, after how many
--- steps it may move again, and the mode that it starts at
+-- what a desk goes by: the codec, the set of its modes, whether it moves to a neighbour only,
+-- after how many steps it may move again, and the mode that it starts at
 pub record DeskPlan : Type 0 where
   pub codec : Codec
   pub modes : List ℕ
@@ -71,7 +72,8 @@ next_mode plan desk = cond (may_move plan desk)
 
 -- the desk after one event
 abbrev pub after : DeskPlan → Desk → Event → Desk
-after plan desk (Hear cmr) = record desk { target = aimed plan.modes desk.target (request_in plan.codec cmr) }
+after plan desk (Hear cmr) =
+    record desk { target = aimed plan.modes desk.target (request_in plan.codec cmr) }
 after plan desk Step = record desk { mode = next_mode plan desk; steps = suc desk.steps }
 
 -- the desk that heard and did nothing yet

@@ -1,5 +1,5 @@
--- Sets of speech modes (RFC 4867, 8.1 and 8.2, mode-set; the modes are those of 3GPP TS 26.101 and TS 26.201).
--- A set is given as the list of its modes, rising.
+-- Sets of speech modes (RFC 4867, 8.1 and 8.2, mode-set; the modes are those of 3GPP TS 26.101
+-- and TS 26.201). A set is given as the list of its modes, rising.
 use Rattle.std.specs.Prelude.{◌≡◌, ℕ, ◌/◌, ◌%◌, ◌^◌, ◌<◌, max, Bool, true, false, nat_eq, List, length, filter, fold}
 use Rattle.std.specs.List.{range_with_len, list_any, list_all}
 use Rattle.amr_frame.specs.declared.codec.Codec.{Codec}
@@ -24,7 +24,8 @@ all_modes codec = filter (is_mode codec) (range_with_len 0 16)
 abbrev pub has : List ℕ → ℕ → Bool
 has modes mode = list_any (λ m. nat_eq m mode) modes
 
--- the modes of the codec that are among some numbers, in whatever order and however often they stand there
+-- the modes of the codec that are among some numbers, in whatever order and however often they
+-- stand there
 abbrev pub modes_among : Codec → List ℕ → List ℕ
 modes_among codec numbers = filter (has numbers) (all_modes codec)
 

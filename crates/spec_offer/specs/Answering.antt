@@ -1,4 +1,5 @@
--- Answering the offer that a whole input is: what is put out, how it ends, and what is noted. This project's own.
+-- Answering the offer that a whole input is: what is put out, how it ends, and what is noted.
+-- This project's own.
 use Rattle.std.specs.Prelude.{ℕ, cond, nat_lt, List, [], ◌++◌, length, flat_map, Option, Some, None, Result, Ok, Err, codes, decimal}
 use Rattle.spec_media.specs.Params.{row_for}
 use Rattle.spec_media.specs.declared.refusal.FmtpRefusal.{FmtpRefusal}
@@ -31,9 +32,11 @@ abbrev offer_end : Wanted → Result Offer OfferRefusal → End
 offer_end w (Err r) = Refused r
 offer_end w (Ok o) = chosen_end (answer_to o w).chosen
 
--- the first that holds: the input is longer than the limit, the offer is refused, no type suits, or all went well
+-- the first that holds: the input is longer than the limit, the offer is refused, no type suits,
+-- or all went well
 abbrev pub answer_end : Answering → ℕ → List ℕ → End
-answer_end a limit input = cond (nat_lt limit (length input)) LimitReached (offer_end a.wanted (offer_of input))
+answer_end a limit input =
+    cond (nat_lt limit (length input)) LimitReached (offer_end a.wanted (offer_of input))
 
 abbrev chosen_text : Offer → Answering → Option Chosen → List ℕ
 chosen_text o a None = []
@@ -66,9 +69,11 @@ offer_notes w (Ok o) = flat_map refused_line (answer_to o w).refused
 
 -- the notes before that of the end: a line for each type that doesn't suit, where the offer is read
 abbrev pub answer_notes : Answering → ℕ → List ℕ → List ℕ
-answer_notes a limit input = cond (nat_lt limit (length input)) [] (offer_notes a.wanted (offer_of input))
+answer_notes a limit input =
+    cond (nat_lt limit (length input)) [] (offer_notes a.wanted (offer_of input))
 
--- a refusal of parameters as it is noted: its name, the payload type, and the parameter where one is named
+-- a refusal of parameters as it is noted: its name, the payload type, and the parameter where one
+-- is named
 abbrev fmtp_text : ℕ → FmtpRefusal → List ℕ
 fmtp_text pt fmtp.NoName = codes "F1 pt=" ++ decimal pt
 fmtp_text pt (fmtp.BadValue p) = codes "F2 pt=" ++ decimal pt ++ codes " param=" ++ (row_for p).name

@@ -1,5 +1,6 @@
--- The answer to an offer (RFC 3264, 6; RFC 4867, 8.3): the first offered payload type that suits what is wanted. What
--- suits, and in which order the reasons against a type are tested, are this project's own.
+-- The answer to an offer (RFC 3264, 6; RFC 4867, 8.3): the first offered payload type that suits
+-- what is wanted. What suits, and in which order the reasons against a type are tested, are this
+-- project's own.
 use Rattle.std.specs.Prelude.{ℕ, Bool, true, false, not, ◌&&◌, nat_eq, nat_lt, List, [], ◌∷◌, ◌++◌, filter_map, find, flat_map, take_while, cond, Option, Some, None, is_none, option_map, bytes_eq, codes, decimal}
 use Rattle.std.specs.Option.{unwrap_or}
 use Rattle.amr_frame.specs.declared.codec.Codec.{Codec}
@@ -15,8 +16,8 @@ use Rattle.spec_offer.specs.declared.answer.RefusedType.{RefusedType}
 use Rattle.spec_offer.specs.declared.answer.Why.{Why}
 use Rattle.spec_offer.specs.declared.answer.Why.TheVariants as reason
 
--- what is wanted: a codec and a number of channels, modes, whether CRCs and sorting may be used, and the most
--- blocks in an interleaving group, 0 where there are to be none
+-- what is wanted: a codec and a number of channels, modes, whether CRCs and sorting may be used,
+-- and the most blocks in an interleaving group, 0 where there are to be none
 pub record Wanted : Type 0 where
   pub codec : Codec
   pub channels : ℕ
@@ -31,8 +32,8 @@ same_codec Amr AmrWb = false
 same_codec AmrWb Amr = false
 same_codec AmrWb AmrWb = true
 
--- why an offered type doesn't suit, the first reason that holds; an offer without groups or without a mode set
--- isn't refused for them
+-- why an offered type doesn't suit, the first reason that holds; an offer without groups or
+-- without a mode set isn't refused for them
 abbrev pub unsuited : Wanted → OfferedType → Option Why
 unsuited w t = first (
     when (not (same_codec t.codec w.codec)) reason.Codec
@@ -45,7 +46,8 @@ unsuited w t = first (
 abbrev pub suits : Wanted → OfferedType → Bool
 suits w t = is_none (unsuited w t)
 
--- the modes that are answered: those offered, or, where none are and not all are wanted, those wanted
+-- the modes that are answered: those offered, or, where none are and not all are wanted, those
+-- wanted
 abbrev pub answered_modes : Wanted → Option (List ℕ) → Option (List ℕ)
 answered_modes w (Some modes) = Some modes
 answered_modes w None = cond (bytes_eq w.modes (all_modes w.codec)) None (Some w.modes)
@@ -75,15 +77,16 @@ answer_to o w = record {
   refused = filter_map (refused_of w) (take_while (λ t. not (suits w t)) o.types);
 }
 
--- the lines of an answer's text, without their ends (RFC 4566, 5.14 and 6): the media line, the map, the parameters
--- where there are any, and the times that were asked for
+-- the lines of an answer's text, without their ends (RFC 4566, 5.14 and 6): the media line, the
+-- map, the parameters where there are any, and the times that were asked for
 abbrev pub answer_lines : Offer → Wanted → ℕ → Chosen → List (List ℕ)
 answer_lines o w port c =
     let parameters = printed c.parameters in
     (codes "m=audio " ++ decimal port ++ codes " " ++ o.protocol ++ codes " " ++ decimal c.pt)
-    ∷ (codes "a=rtpmap:" ++ decimal c.pt ++ codes " " ++ codec_name w.codec ++ codes "/" ++ decimal (clock w.codec)
-    ++ codes "/" ++ decimal w.channels)
-    ∷ cond (is_empty parameters) [] ((codes "a=fmtp:" ++ decimal c.pt ++ codes " " ++ parameters) ∷ [])
+    ∷ (codes "a=rtpmap:" ++ decimal c.pt ++ codes " " ++ codec_name w.codec
+    ++ codes "/" ++ decimal (clock w.codec) ++ codes "/" ++ decimal w.channels)
+    ∷ cond (is_empty parameters) []
+    ((codes "a=fmtp:" ++ decimal c.pt ++ codes " " ++ parameters) ∷ [])
     ++ time_line (codes "a=ptime:") o.ptime ++ time_line (codes "a=maxptime:") o.maxptime
   where
     time_line : List ℕ → Option ℕ → List (List ℕ)

@@ -1,5 +1,6 @@
--- An offer of AMR and AMR-WB as a session description makes it, and why others are refused (RFC 3264, 5; RFC 4867,
--- 8.3). The order in which refusals are tested, F5, F6, and then F1 to F4, is this project's own.
+-- An offer of AMR and AMR-WB as a session description makes it, and why others are refused (RFC
+-- 3264, 5; RFC 4867, 8.3). The order in which refusals are tested, F5, F6, and then F1 to F4, is
+-- this project's own.
 use Rattle.std.specs.Prelude.{ℕ, Bool, ◌&&◌, nat_eq, List, [], ◌∷◌, map, filter_map, Option, Some, None, Result, Ok, Err, option_and_then, option_map, codes}
 use Rattle.std.specs.Option.{unwrap_or}
 use Rattle.std.specs.Str.{str_eq_ignore_ascii_case}
@@ -35,14 +36,16 @@ pub record OfferedType : Type 0 where
   pub channels : ℕ
   pub parameters : Parameters
 
--- an offer: its payload types in order, its protocol word, and the times that it asks for, in milliseconds
+-- an offer: its payload types in order, its protocol word, and the times that it asks for, in
+-- milliseconds
 pub record Offer : Type 0 where
   pub types : List OfferedType
   pub protocol : List ℕ
   pub ptime : Option ℕ
   pub maxptime : Option ℕ
 
-abbrev with_parameters : ℕ → Codec → ℕ → Result Parameters FmtpRefusal → Result OfferedType OfferRefusal
+abbrev with_parameters : ℕ → Codec → ℕ → Result Parameters FmtpRefusal
+    → Result OfferedType OfferRefusal
 with_parameters pt codec channels (Ok p) =
     Ok (record { pt = pt; codec = codec; channels = channels; parameters = p })
 with_parameters pt codec channels (Err r) = Err (why.Parameters pt r)
@@ -51,10 +54,12 @@ with_parameters pt codec channels (Err r) = Err (why.Parameters pt r)
 abbrev pub parameter_text : Section → ℕ → List ℕ
 parameter_text s pt = unwrap_or (option_map (λ f. f.text) (format_of s pt)) []
 
--- a payload type of a codec, where its map gives one of the two, with its parameters or why they are refused
+-- a payload type of a codec, where its map gives one of the two, with its parameters or why they
+-- are refused
 abbrev pub read_type : Section → ℕ → Option (Result OfferedType OfferRefusal)
 read_type s pt = option_and_then (λ (m : Map). option_map
-    (λ codec. with_parameters pt codec m.channels (parameters_of codec (parameter_text s pt))) (codec_of m)) (map_of s pt)
+    (λ codec. with_parameters pt codec m.channels (parameters_of codec (parameter_text s pt)))
+    (codec_of m)) (map_of s pt)
 
 -- the payload types of the two codecs, in the order of the media line
 abbrev pub types_of : Section → List (Result OfferedType OfferRefusal)

@@ -1,5 +1,6 @@
--- The audio section of a session description (RFC 4566, 5.14): its first line that begins with `m=audio ` and
--- the lines behind it, up to the next `m=`. Lines that aren't named here are passed over.
+-- The audio section of a session description (RFC 4566, 5.14): its first line that begins with
+-- `m=audio ` and the lines behind it, up to the next `m=`. Lines that aren't named here are
+-- passed over.
 use Rattle.std.specs.Prelude.{ℕ, Bool, not, ◌&&◌, ◌||◌, nat_eq, List, [], ◌∷◌, map, filter, filter_map, find, drop, take_while, Option, Some, None, is_none, codes}
 use Rattle.std.specs.List.{position_or_len}
 use Rattle.amr_frame.specs.First.{when, first}
@@ -44,12 +45,14 @@ breaks front grammar l = begins front l && is_none (grammar (behind front l))
 -- the number of the first line that isn't in its grammar, of the media line, a=rtpmap and a=fmtp
 abbrev pub first_bad : Section → Option ℕ
 first_bad s = first (map
-    (λ l. when (breaks media_front media_in l || (breaks map_front map_in l || breaks format_front format_in l)) l.number)
+    (λ l. when (breaks media_front media_in l
+    || (breaks map_front map_in l || breaks format_front format_in l)) l.number)
     (s.media ∷ s.attributes))
 
 -- what the lines that begin so say, those alone that are in the grammar
 abbrev pub told : {X : Type 0} → List ℕ → (List ℕ → Option X) → Section → List X
-told front grammar s = filter_map (λ l. grammar (behind front l)) (filter (begins front) (s.media ∷ s.attributes))
+told front grammar s = filter_map (λ l. grammar (behind front l))
+    (filter (begins front) (s.media ∷ s.attributes))
 
 -- the first of several
 abbrev pub head : {X : Type 0} → List X → Option X
@@ -67,7 +70,8 @@ map_of s pt = find (λ (m : Map). nat_eq m.pt pt) (told map_front map_in s)
 abbrev pub format_of : Section → ℕ → Option Format
 format_of s pt = find (λ (f : Format). nat_eq f.pt pt) (told format_front format_in s)
 
--- the first number of 1 to 5 digits that is told in milliseconds (RFC 4566, 6: a=ptime and a=maxptime)
+-- the first number of 1 to 5 digits that is told in milliseconds (RFC 4566, 6: a=ptime and
+-- a=maxptime)
 abbrev pub ptime_of : Section → Option ℕ
 ptime_of s = head (told ptime_front (number_in 5) s)
 

@@ -1,5 +1,6 @@
--- The blocks of a trial, made from a number. For each frame a draw of 16 says what it is: 0 to 12 and 15 speech, 15 with
--- Q = 0; 13 a silence descriptor; 14 NO_DATA. Speech draws its mode, and each frame its octets. Ours.
+-- The blocks of a trial, made from a number. For each frame a draw of 16 says what it is: 0 to 12
+-- and 15 speech, 15 with Q = 0; 13 a silence descriptor; 14 NO_DATA. Speech draws its mode, and
+-- each frame its octets. Ours.
 use Rattle.std.specs.Prelude.{ℕ, ◌+◌, ◌*◌, Bool, true, false, cond, nat_eq, List, [], ◌∷◌, ◌++◌, length, map, take, fold}
 use Rattle.std.specs.List.{range_with_len}
 use Rattle.amr_bits.specs.Bits.{bits_of, part}
@@ -27,7 +28,11 @@ octets_drawn x n = map (λ i. drawn (after x (i + 1)) 256) (range_with_len 0 n)
 -- a frame of this type and Q, from the state before its octets
 abbrev frame_drawn : Codec → ℕ → Bool → ℕ → Made
 frame_drawn codec ft q x = record {
-  frames = record { ft = ft; q = q; bits = take (bits_in codec ft) (bits_of (octets_drawn x (octets_in codec ft))) } ∷ [];
+  frames = record {
+    ft = ft;
+    q = q;
+    bits = take (bits_in codec ft) (bits_of (octets_drawn x (octets_in codec ft)));
+  } ∷ [];
   state = after x (octets_in codec ft);
 }
 
@@ -48,12 +53,14 @@ frame_made codec x = frame_of_draw codec (next x) (drawn (next x) 16)
 
 -- frames and one more
 abbrev one_more : Codec → Made → ℕ → Made
-one_more codec m k = let f = frame_made codec m.state in record { frames = m.frames ++ f.frames; state = f.state }
+one_more codec m k = let f = frame_made codec m.state in
+    record { frames = m.frames ++ f.frames; state = f.state }
 
 -- so many frames
 abbrev pub frames_made : Codec → ℕ → ℕ → List Frame
 frames_made codec seed n =
-    let none : Made = record { frames = []; state = seed } in (fold (one_more codec) none (range_with_len 0 n)).frames
+    let none : Made = record { frames = []; state = seed } in
+    (fold (one_more codec) none (range_with_len 0 n)).frames
 
 -- so many blocks: in each, the channels in order
 abbrev pub blocks_made : Codec → ℕ → ℕ → ℕ → List (List Frame)

@@ -1,4 +1,5 @@
--- The generator of a trial: a linear congruential one of 64 bits, of whose state the upper bits are drawn. Ours.
+-- The generator of a trial: a linear congruential one of 64 bits, of whose state the upper bits
+-- are drawn. Ours.
 use Rattle.std.specs.Prelude.{ℕ, zero, suc, ◌+◌, ◌*◌, ◌/◌, ◌%◌, ◌^◌}
 
 -- the state after the next draw

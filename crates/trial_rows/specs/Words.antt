@@ -23,7 +23,12 @@ plain_plan = record {
 
 -- so many blocks of AMR, made from a number
 abbrev pub trial : ℕ → ℕ → Trial
-trial count seed = record { count = count; seed = seed; sending = plain_plan; recording = recording packed 256 }
+trial count seed = record {
+  count = count;
+  seed = seed;
+  sending = plain_plan;
+  recording = recording packed 256;
+}
 
 -- the trial of five blocks
 abbrev pub five : Trial

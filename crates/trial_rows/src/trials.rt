@@ -26,7 +26,8 @@ pub fn empty_trials()
     ensures any_number { summary (trial 0 7) ≡ summary (trial 0 0) }
 {}
 
-/// A trial of five blocks: packet 0 is held and delivered behind packet 1, which is delivered twice, and packet 2 is lost.
+/// A trial of five blocks: packet 0 is held and delivered behind packet 1, which is delivered
+/// twice, and packet 2 is lost.
 pub fn five_blocks()
     ensures types { types five ≡ (0 ∷ []) ∷ (1 ∷ []) ∷ (15 ∷ []) ∷ (4 ∷ []) ∷ (8 ∷ []) ∷ [] }
     ensures fates { fates 4410 5 ≡ Held ∷ Twice ∷ Lost ∷ Once ∷ Once ∷ [] }
