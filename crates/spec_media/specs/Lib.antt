@@ -1,0 +1,4 @@
+pub mod Params
+pub mod Pieces
+pub mod Printing
+pub mod Reading

@@ -1,0 +1,9 @@
+//! Offers of AMR and AMR-WB (RFC 3264, RFC 4566, RFC 4867, 8.3) as they are read, and the answer
+//! to them: definitions alone.
+#![tactic(auto)]
+
+mod answer;
+mod refusal;
+
+pub use answer::{RefusedType, Why};
+pub use refusal::OfferRefusal;

@@ -1,0 +1,4 @@
+pub mod Blocks
+pub mod Delivery
+pub mod Draws
+pub mod Trials
