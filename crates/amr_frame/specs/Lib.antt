@@ -5,3 +5,4 @@ pub mod Frames
 pub mod Memory
 pub mod Profiles
 pub mod Tables
+pub mod Steps

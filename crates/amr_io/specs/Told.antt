@@ -1,5 +1,5 @@
 -- Octets told: what a read takes of those left in a source, what a write adds to those a sink got.
-use Rattle.std.specs.Prelude.{◌≡◌, ℕ, ◌≤◌, ◌<◌, List, [], length, take, ⊤, None, Some, MatchResult, ◌↔◌, Option, Result}
+use Rattle.std.specs.Prelude.{◌≡◌, ℕ, ◌≤◌, ◌<◌, List, [], ◌++◌, length, take, ⊤, None, Some, MatchResult, ◌↔◌, Option, Result}
 use Rattle.std.specs.Io.KnownBytes.{Keeps, Appends, Consumes}
 
 -- where the octets left are told, n is 0 exactly where none is left
@@ -23,3 +23,8 @@ Writes got got' r bytes = MatchResult r
 -- a proper prefix of the octets was added
 abbrev pub AppendsPart : Option (List ℕ) → Option (List ℕ) → List ℕ → Type 0
 AppendsPart got got' bytes = (n : ℕ) × (n < length bytes) × Appends got got' (take n bytes)
+
+-- a front of the octets, it may be all of them, was added
+abbrev pub AppendsFront : Option (List ℕ) → Option (List ℕ) → List ℕ → Type 0
+AppendsFront got got' octets =
+    (front : List ℕ) × (rest : List ℕ) × (octets ≡ front ++ rest) × Appends got got' front
