@@ -1,5 +1,5 @@
 -- The words of the worked examples of offers and answers.
-use Rattle.std.specs.Prelude.{ℕ, true, List, [], ◌∷◌, ◌++◌, map, Some, codes}
+use Rattle.std.specs.Prelude.{ℕ, true, List, [], ◌∷◌, ◌++◌, map, None, Some, codes}
 use Rattle.amr_frame.specs.declared.codec.Codec.TheVariants.{Amr, AmrWb}
 use Rattle.media_rows.specs.Words.{aligned, plain}
 use Rattle.spec_media.specs.Params.{Parameters}
@@ -29,9 +29,12 @@ offer_with ninth tenth =
     ++ ninth ++ codes "\n" ++ tenth
     ++ codes "a=rtpmap:101 telephone-event/8000\na=fmtp:101 0-15\na=ptime:20\na=maxptime:240\n"
 
+-- the same with the line of AMR as its ninth
+abbrev pub amr_with : List ℕ → List ℕ
+amr_with tenth = offer_with (codes "a=rtpmap:98 AMR/8000") tenth
+
 abbrev pub worked_offer : List ℕ
-worked_offer = offer_with (codes "a=rtpmap:98 AMR/8000")
-    (codes "a=fmtp:98 mode-set=0,2,5,7; octet-align=1\n")
+worked_offer = amr_with (codes "a=fmtp:98 mode-set=0,2,5,7; octet-align=1\n")
 
 -- a type of each codec with these parameters
 abbrev pub plain_type : Parameters → OfferedType
@@ -52,6 +55,10 @@ typed p = record {
 
 abbrev pub worked : Offer
 worked = typed (record aligned { modes = Some (0 ∷ 2 ∷ 5 ∷ 7 ∷ []) })
+
+-- an offer of no type of ours
+abbrev pub no_types : Offer
+no_types = record { types = []; protocol = codes "x"; ptime = None; maxptime = None }
 
 -- AMR of one channel, in all modes and with all that the formats can do; and the same in some modes
 abbrev pub wanted : Wanted
@@ -76,3 +83,9 @@ answer w text = answer_out (asks w) 65536 text
 
 abbrev pub noted : Wanted → List ℕ → List ℕ
 noted w text = answer_notes (asks w) 65536 text
+
+-- an answer that takes type 98, with this line of its parameters
+abbrev pub answer_with : List ℕ → List ℕ
+answer_with parameters =
+    codes "m=audio 9 RTP/AVP 98\r\na=rtpmap:98 AMR/8000/1\r\n"
+    ++ parameters ++ codes "a=ptime:20\r\na=maxptime:240\r\n"

@@ -1,5 +1,5 @@
 -- The words of the worked examples of media parameters and modes.
-use Rattle.std.specs.Prelude.{ℕ, ◌+◌, Bool, true, false, List, [], ◌∷◌, length, map, take, None}
+use Rattle.std.specs.Prelude.{ℕ, ◌+◌, Bool, true, false, List, [], ◌∷◌, length, map, take, None, Some}
 use Rattle.std.specs.List.{range_with_len}
 use Rattle.amr_frame.specs.declared.codec.Codec.TheVariants.{Amr}
 use Rattle.spec_media.specs.Params.{Parameters}
@@ -21,6 +21,20 @@ plain = record {
 
 abbrev pub aligned : Parameters
 aligned = record plain { octet_aligned = true }
+
+-- each parameter otherwise than by default, with this bound on redundancy
+abbrev pub every : ℕ → Parameters
+every max_red = record {
+  octet_aligned = true;
+  modes = Some (0 ∷ 2 ∷ 5 ∷ []);
+  period = 2;
+  capability = 2;
+  neighbor = true;
+  crc = true;
+  sorting = true;
+  interleaving = Some 30;
+  max_red = Some max_red;
+}
 
 -- a desk of the modes 0, 2, 5 and 7 that starts at 7 and may move at each step, to a neighbour
 -- alone or not
