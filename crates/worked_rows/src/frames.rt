@@ -17,7 +17,8 @@ pub fn valid_formats()
     ensures b2 { profile_fault (record packed { crc = true }) ≡ Some fault.NeedsAlignment }
     ensures b3 { profile_fault (interleaved 0) ≡ Some fault.Interleaving }
     ensures b4 { profile_fault (record aligned { max_blocks = 65 }) ≡ Some fault.MaxBlocks }
-    ensures first_of_two { profile_fault (record packed { channels = 0; max_blocks = 0 }) ≡ Some fault.Channels }
+    ensures first_of_two { profile_fault (record packed { channels = 0; max_blocks = 0 })
+        ≡ Some fault.Channels }
 {}
 
 /// A block of two channels: a silence descriptor, and nothing.
@@ -32,9 +33,11 @@ pub fn frame_crcs()
     ensures no_bits { number (crc_of []) ≡ 0x00 }
 {}
 
-/// The octets of frames of two and three octets, and of a frame without bits between them, in the robust order.
+/// The octets of frames of two and three octets, and of a frame without bits between them, in the
+/// robust order.
 pub fn robust_orders()
-    ensures two { robust_order (2 ∷ 3 ∷ []) ≡ place 0 0 ∷ place 0 1 ∷ place 1 0 ∷ place 1 1 ∷ place 2 1 ∷ [] }
+    ensures two { robust_order (2 ∷ 3 ∷ [])
+        ≡ place 0 0 ∷ place 0 1 ∷ place 1 0 ∷ place 1 1 ∷ place 2 1 ∷ [] }
     ensures one_empty { robust_order (2 ∷ 0 ∷ 1 ∷ []) ≡ place 0 0 ∷ place 0 2 ∷ place 1 0 ∷ [] }
 {}
 
@@ -42,10 +45,16 @@ pub fn robust_orders()
 pub fn frames_by_quality()
     ensures absent_is_least { quality Amr None (Some (record no_data { q = false })) ≡ Less }
     ensures no_data { quality Amr (Some (record no_data { q = false })) (Some no_data) ≡ Less }
-    ensures damaged_speech { quality Amr (Some no_data) (Some (record (frame 7 244 (zeros 31)) { q = false })) ≡ Less }
-    ensures sid { quality Amr (Some (record (frame 7 244 (zeros 31)) { q = false })) (Some (frame 8 39 (zeros 5))) ≡ Less }
-    ensures good_speech { quality Amr (Some (frame 8 39 (zeros 5))) (Some (frame 2 118 (zeros 15))) ≡ Less }
-    ensures higher_type { quality Amr (Some (frame 2 118 (zeros 15))) (Some (frame 7 244 (zeros 31))) ≡ Less }
-    ensures greater_bits { quality Amr (Some (frame 7 244 (zeros 31))) (Some (frame 7 244 (zeros 30 ++ 0x10 ∷ []))) ≡ Less }
-    ensures same { quality Amr (Some (frame 7 244 (zeros 31))) (Some (frame 7 244 (zeros 31))) ≡ Equal }
+    ensures damaged_speech { quality Amr (Some no_data)
+        (Some (record (frame 7 244 (zeros 31)) { q = false })) ≡ Less }
+    ensures sid { quality Amr (Some (record (frame 7 244 (zeros 31)) { q = false }))
+        (Some (frame 8 39 (zeros 5))) ≡ Less }
+    ensures good_speech { quality Amr (Some (frame 8 39 (zeros 5))) (Some (frame 2 118 (zeros 15)))
+        ≡ Less }
+    ensures higher_type { quality Amr (Some (frame 2 118 (zeros 15)))
+        (Some (frame 7 244 (zeros 31))) ≡ Less }
+    ensures greater_bits { quality Amr (Some (frame 7 244 (zeros 31)))
+        (Some (frame 7 244 (zeros 30 ++ 0x10 ∷ []))) ≡ Less }
+    ensures same { quality Amr (Some (frame 7 244 (zeros 31))) (Some (frame 7 244 (zeros 31)))
+        ≡ Equal }
 {}

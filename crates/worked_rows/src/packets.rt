@@ -17,14 +17,18 @@ pub fn refused_headers()
 
 /// A packet with a contributing source, an extension and padding has the layout of its fields.
 pub fn whole_headers()
-    ensures { let octets = 0xB1 ∷ 0x60 ∷ zeros 14 ++ 0xBE ∷ 0xDE ∷ 0x00 ∷ 0x01 ∷ zeros 4 ++ seven ++ 1 ∷ 2 ∷ 3 ∷ 4 ∷ [] in
-        (rtp_refusal octets ≡ None) × ((packet_at octets).payload ≡ seven) × ((packet_at octets).sources ≡ 0 ∷ [])
+    ensures { let octets = 0xB1 ∷ 0x60 ∷ zeros 14 ++ 0xBE ∷ 0xDE ∷ 0x00 ∷ 0x01 ∷ zeros 4 ++ seven
+        ++ 1 ∷ 2 ∷ 3 ∷ 4 ∷ [] in (rtp_refusal octets ≡ None) × ((packet_at octets).payload ≡ seven)
+        × ((packet_at octets).sources ≡ 0 ∷ [])
         × ((packet_at octets).padding ≡ 4) × IsPacket (packet_at octets) octets }
 {}
 
 /// Why a later packet isn't accepted.
 pub fn refused_places()
-    ensures s1 { verdict_after packed (rtp 0 0 0 seven) (rtp 1 160 1 seven) ≡ Some (OtherSource 0 1) }
-    ensures s2 { verdict_after packed (rtp 0 0xFFFF_FFC0 0 seven) (rtp 1 0x61 0 seven) ≡ Some (OffGrid (pos 161)) }
-    ensures s3 { verdict_after packed (rtp 0 0 0 seven) (rtp 1 7200160 0 seven) ≡ Some (FarAhead (pos 0) (pos 45001)) }
+    ensures s1 { verdict_after packed (rtp 0 0 0 seven) (rtp 1 160 1 seven)
+        ≡ Some (OtherSource 0 1) }
+    ensures s2 { verdict_after packed (rtp 0 0xFFFF_FFC0 0 seven) (rtp 1 0x61 0 seven)
+        ≡ Some (OffGrid (pos 161)) }
+    ensures s3 { verdict_after packed (rtp 0 0 0 seven) (rtp 1 7200160 0 seven)
+        ≡ Some (FarAhead (pos 0) (pos 45001)) }
 {}
