@@ -1,5 +1,5 @@
 -- The words of the worked examples of listings.
-use Rattle.std.specs.Prelude.{ℕ, true, false, List, [], ◌∷◌, None}
+use Rattle.std.specs.Prelude.{ℕ, true, false, List, [], ◌∷◌, ◌++◌, None, codes, decimal}
 use Rattle.amr_frame.specs.declared.profile.Profile.{Profile}
 use Rattle.spec_listing.specs.Listing.{Listing, list_meaning, listing}
 use Rattle.spec_modes.specs.ModeSets.{all_modes, greatest}
@@ -39,3 +39,9 @@ one payload = rtp 0 0 0 payload
 -- what listing any payload type of plain AMR means under a limit
 abbrev pub meaning : ℕ → Meaning
 meaning limit = list_meaning (listing_of packed) limit
+
+-- the line of such a packet: its number and length, its fields, and what is told of its payload
+abbrev pub line : ℕ → ℕ → List ℕ → List ℕ
+line number len payload =
+    decimal number ++ codes " " ++ decimal len
+    ++ codes " pt=96 m=0 seq=0 ts=0 ssrc=00000000 " ++ payload

@@ -4,4 +4,6 @@
 
 mod listings;
 
-pub use listings::{ends_of_listings, listed_modes, listed_packets, listed_payloads};
+pub use listings::{
+    ends_of_listings, listed_modes, listed_packets, listed_payloads, listed_refusals,
+};
