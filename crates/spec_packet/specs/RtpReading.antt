@@ -1,5 +1,6 @@
 -- Which octets are no RTP packet and why, and what the others say: by places in the octets
--- (RFC 3550, 5.1 and 5.3.1). The order in which refusals are tested, H1 to H5, is this project's own.
+-- (RFC 3550, 5.1 and 5.3.1). The order in which refusals are tested, H1 to H5, is this project's
+-- own.
 use Rattle.std.specs.Prelude.{ℕ, ◌+◌, ◌-◌, ◌*◌, ◌/◌, Bool, not, cond, ◌&&◌, ◌||◌, nat_lt, nat_eq, List, [], ◌∷◌, length, map, slice_index, Option, Some, None, Result, Ok, Err}
 use Rattle.std.specs.List.{range_with_len}
 use Rattle.amr_bits.specs.Bits.{bit_at, number_at, part}
@@ -31,14 +32,25 @@ header_end octets = cond (is_extended octets)
 abbrev pub padding_in : List ℕ → ℕ
 padding_in octets = cond (is_padded octets) (slice_index octets (length octets - 1)) 0
 
+-- the extension doesn't fit, or the padding has no octet or doesn't fit behind the header
+abbrev pub breaks_extension : List ℕ → Bool
+breaks_extension octets = is_extended octets
+    && (nat_lt (length octets) (sources_end octets + 4)
+    || nat_lt (length octets) (header_end octets))
+
+abbrev pub breaks_padding : List ℕ → Bool
+breaks_padding octets = is_padded octets
+    && (nat_eq (padding_in octets) 0
+    || nat_lt (length octets) (header_end octets + padding_in octets))
+
 -- the first rule that octets break: H1 to H5
 abbrev pub rtp_refusal : List ℕ → Option RtpRefusal
-rtp_refusal octets = let have = length octets in first (
-    when (nat_lt have 12) (why.Short have)
+rtp_refusal octets = first (
+    when (nat_lt (length octets) 12) (why.Short (length octets))
     ∷ when (not (nat_eq (version octets) 2)) (why.Version (version octets))
-    ∷ when (nat_lt have (sources_end octets)) why.Sources
-    ∷ when (is_extended octets && (nat_lt have (sources_end octets + 4) || nat_lt have (header_end octets))) why.Extension
-    ∷ when (is_padded octets && (nat_eq (padding_in octets) 0 || nat_lt have (header_end octets + padding_in octets))) why.Padding ∷ [])
+    ∷ when (nat_lt (length octets) (sources_end octets)) why.Sources
+    ∷ when (breaks_extension octets) why.Extension
+    ∷ when (breaks_padding octets) why.Padding ∷ [])
 
 -- the extension, where there is one
 abbrev pub extension_in : List ℕ → Option Extension
