@@ -1,7 +1,9 @@
 -- What a reader of records holds, and how far a step takes it. The reader is ours.
-use Rattle.std.specs.Prelude.{◌≡◌, ◌≢◌, ℕ, ◌+◌, ◌-◌, ◌≤◌, ◌<◌, ◌^◌, List, [], ◌∷◌, ◌++◌, take, drop, length, Option, Result, Ok, Err, IfSome, IfOk}
+use Rattle.std.specs.Prelude.{◌≡◌, ◌≢◌, ℕ, ◌+◌, ◌-◌, ◌≤◌, ◌<◌, ◌^◌, List, [], ◌∷◌, ◌++◌, take, drop, length, Option, Result, Ok, Err, IfSome, IfOk, IsOk}
 use Rattle.std.specs.Io.KnownBytes.{Consumes}
+use Rattle.amr_io.specs.Fault.{HasCause}
 use Rattle.amr_io.specs.declared.gate.Gate.TheVariants as gate
+use Rattle.amr_io.specs.declared.source.Source as source
 use Rattle.amr_io.specs.declared.source.Failed.{Failed}
 use Rattle.spec_packet.specs.Records.{IsRecord, IsPartial, IsWhole}
 use Rattle.record_reader.specs.declared.reader.RecordReader.{RecordReader}
@@ -117,6 +119,18 @@ module _ {HEAD AT : ℕ} where
   -- an end is given again, with no read
   abbrev pub Repeats : {S : Type 0} → RecordReader HEAD AT → Result Step Failed
       → RecordReader HEAD AT → S → S → Type 0
-  Repeats old r new source source' =
-      (HasEnded old → (r ≡ Ok End) × Stays old new × (source' ≡ source))
-      × (IsOver old → (r ≡ Ok OverLimit) × Stays old new × (source' ≡ source))
+  Repeats old r new before after =
+      (HasEnded old → (r ≡ Ok End) × Stays old new × (after ≡ before))
+      × (IsOver old → (r ≡ Ok OverLimit) × Stays old new × (after ≡ before))
+
+-- what every step promises, whatever it answers: how it goes on, that an end is given again, what
+-- is lent, that nothing is read where a record is held, and that it fails only where the source's
+-- faults rose
+pub record Moves {HEAD AT : ℕ} {S : Type 0} (s : source.Ghosts S) (before after : S)
+    (old : RecordReader HEAD AT) (r : Result Step Failed) (new : RecordReader HEAD AT)
+    : Type 0 where
+  pub goes : IsOpen old → Advances (s.left before) (s.left after) old r new
+  pub again : Repeats old r new before after
+  pub lends : Shifts old r new
+  pub no_read : IsWhole HEAD AT (rest old) → (after ≡ before) × IsOk r
+  pub cause : HasCause (s.faults before) (s.faults after) r

@@ -3,11 +3,11 @@
 #![tactic(auto)]
 
 mod head;
-mod law;
+mod laws;
 mod next;
 mod reader;
 
-pub use law::{a_log_has_one_cut, octets_have_one_cut};
+pub use laws::{a_log_has_one_cut, octets_have_one_cut};
 pub use next::Next;
 pub use reader::RecordReader;
 

@@ -27,7 +27,7 @@ pub struct RecordReader<const HEAD: usize, const AT: usize> {
 }
 
 impl<const HEAD: usize, const AT: usize> RecordReader<HEAD, AT> {
-    ghost use Rattle.record_reader.specs.Reading.{rest, held, lent, given, taken_of, limit_of, IsOpen, HasEnded, IsOver, IsUsable, IsFresh, Advances, ShowsIn, Repeats, Shifts};
+    ghost use Rattle.record_reader.specs.Reading.{rest, held, lent, given, taken_of, limit_of, IsOpen, HasEnded, IsOver, IsUsable, IsFresh, ShowsIn, Moves};
     ghost use Rattle.std.specs.Borrow.{sem};
     ghost use Rattle.record_reader.specs.Lent.{RestsAt, Leaves};
     ghost use Rattle.record_reader.specs.Cause.{TellsIn, LendsRecord, EndsAgain};
@@ -80,11 +80,7 @@ impl<const HEAD: usize, const AT: usize> RecordReader<HEAD, AT> {
         requires part { IsPartial HEAD AT (held self.old) }
         requires free { length (held self.old) < HEAD + (2 ^ 16 - 1) }
 
-        ensures open { IsOpen self.old
-            → Advances (S.left source.old) (S.left source.new) self.old result self.new }
-        ensures again { Repeats self.old result self.new source.old source.new }
-        ensures lends { Shifts self.old result self.new }
-        ensures cause { HasCause (S.faults source.old) (S.faults source.new) result }
+        ensures moves { Moves S.Source source.old source.new self.old result self.new }
     {
         'filling: loop {
             match self.inlet.fill(source)? {
@@ -104,13 +100,7 @@ impl<const HEAD: usize, const AT: usize> RecordReader<HEAD, AT> {
     fn step<S: Source>(&mut self, source: &mut S) -> Result<Step, Failed>
         requires usable { self.old.inlet.gate ≢ gate.Spent }
 
-        ensures open { IsOpen self.old
-            → Advances (S.left source.old) (S.left source.new) self.old result self.new }
-        ensures again { Repeats self.old result self.new source.old source.new }
-        ensures lends { Shifts self.old result self.new }
-        ensures no_read { IsWhole HEAD AT (rest self.old) → (source.new ≡ source.old)
-            × IsOk result }
-        ensures cause { HasCause (S.faults source.old) (S.faults source.new) result }
+        ensures moves { Moves S.Source source.old source.new self.old result self.new }
     {
         self.release();
         if let Some(size) = record_size::<HEAD, AT>(self.inlet.held()) {
@@ -120,19 +110,14 @@ impl<const HEAD: usize, const AT: usize> RecordReader<HEAD, AT> {
         self.refill(source)
     }
 
-    /// Goes on to the next record, by what the octets show.
+    /// Goes on to the next record, by what the octets show: what follows from a step whichever way it
+    /// went, in one place.
     fn advance<S: Source>(&mut self, source: &mut S) -> Result<Step, Failed>
         requires usable { self.old.inlet.gate ≢ gate.Spent }
 
-        ensures open { IsOpen self.old
-            → Advances (S.left source.old) (S.left source.new) self.old result self.new }
-        ensures again { Repeats self.old result self.new source.old source.new }
+        ensures moves { Moves S.Source source.old source.new self.old result self.new }
         ensures shows { IsOpen self.old → ShowsIn (S.left source.old) self.old result self.new }
         ensures usable { IfOk result (λ _. self.new.inlet.gate ≢ gate.Spent) }
-        ensures lends { Shifts self.old result self.new }
-        ensures no_read { IsWhole HEAD AT (rest self.old) → (source.new ≡ source.old)
-            × IsOk result }
-        ensures cause { HasCause (S.faults source.old) (S.faults source.new) result }
     {
         self.step(source)
     }

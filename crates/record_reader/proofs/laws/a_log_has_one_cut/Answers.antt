@@ -1,6 +1,6 @@
 use Rattle.std.proofs.Common.{ap}
 use Rattle.record_reader.proofs.LogCut.{cut_case, cut_is, cut_one}
-use Rattle.record_reader.proofs.law.a_log_has_one_cut.Goals as goal
+use Rattle.record_reader.proofs.laws.a_log_has_one_cut.Goals as goal
 
 pub returns : goal.returns
 returns c = record {
