@@ -48,13 +48,14 @@ module _ {HEAD AT : ℕ} where
       × (taken_of new ≡ taken_of old + length more)
       × (limit_of new ≡ limit_of old) × (IsWhole HEAD AT (rest old) → more ≡ [])
 
--- the octets given rise by those of the record, within the limit; no more are held than a whole
--- record; an end stays; only a fault spends the reader
+-- the octets given rise by those of the record, and they and those taken stay within the limit; no
+-- more are held than a whole record; an end stays; only a fault spends the reader
 pub record Counts {HEAD AT : ℕ} (old : RecordReader HEAD AT) (r : Result Next Failed)
     (new : RecordReader HEAD AT) : Type 0 where
   pub rises : given new ≡ given old + record_octets r
   pub limit : limit_of new ≡ limit_of old
   pub within : given new ≤ limit_of new
+  pub taken : taken_of new ≤ limit_of new
   pub few : length (held new) ≤ HEAD + (2 ^ 16 - 1)
   pub ended : HasEnded old → (rest new ≡ rest old) × HasEnded new
   pub over : IsOver old → (rest new ≡ rest old) × IsOver new

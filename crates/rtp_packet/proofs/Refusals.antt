@@ -1,9 +1,10 @@
 -- The rules for an RTP packet in their order, over the numbers that they compare.
-use Rattle.std.proofs.Common.{◌≡◌, ℕ, ◌+◌, ◌<◌, ◌≤◌, Bool, true, false, nat_eq, List, [], ◌∷◌, length, Option, Some, None, Ok, Err, sym, refl, ap, subst, ◌∙◌, arith}
+use Rattle.std.proofs.Common.{◌≡◌, ℕ, ◌+◌, ◌*◌, ◌<◌, ◌≤◌, Bool, true, false, nat_eq, List, [], ◌∷◌, length, Option, Some, None, Ok, Err, sym, refl, ap, subst, ◌∙◌, arith}
 use Rattle.std.specs.Prelude.{not, nat_lt, ◌&&◌, ◌||◌, ◌↔◌}
 use Rattle.std.proofs.lemmas.Bool.Decides.{nat_tests}
+use Rattle.amr_bits.specs.Bits.{number_at}
 use Rattle.amr_frame.specs.First.{when, first}
-use Rattle.spec_packet.specs.RtpReading.{rtp_of, rtp_refusal, packet_at, sources_end, header_end, padding_in, is_extended, is_padded, version}
+use Rattle.spec_packet.specs.RtpReading.{rtp_of, rtp_refusal, packet_at, sources_end, header_end, padding_in, is_extended, is_padded, breaks_extension, breaks_padding, version}
 use Rattle.spec_packet.specs.declared.refusal.RtpRefusal.{RtpRefusal}
 use Rattle.spec_packet.specs.declared.refusal.RtpRefusal.TheVariants as why
 
@@ -25,9 +26,6 @@ too_padded p have last n = p && (nat_eq n 0 || nat_lt have (last + n))
 
 pub same_long : (x b : Bool) (have t s last : ℕ) → t ≡ s → b ≡ too_long x have t last → too_long x have s last ≡ b
 same_long x b have t s last e h = ap (λ n. too_long x have n last) (sym e) ∙ sym h
-
-pub same_padded : (p b : Bool) (have t last n : ℕ) → t ≡ last → b ≡ too_padded p have t n → too_padded p have last n ≡ b
-same_padded p b have t last n e h = ap (λ m. too_padded p have m n) (sym e) ∙ sym h
 
 -- where the first three rules hold
 all_pass : (have ver sources : ℕ) (extension padding : Bool) → 12 ≤ have → ver ≡ 2 → sources ≤ have → broken have ver sources extension padding ≡ first (when extension why.Extension ∷ when padding why.Padding ∷ [])
@@ -67,6 +65,25 @@ left_rules octets t h x p e f =
     (too_padded (is_padded octets) have (header_end octets) (padding_in octets)) h.fixed h.version (subst (λ (n : ℕ). n ≤ have) h.end h.sources)
     ∙ ap (λ b. first (when b why.Extension ∷ when (too_padded (is_padded octets) have (header_end octets) (padding_in octets)) why.Padding ∷ [])) long
     ∙ ap (λ b. first (when x why.Extension ∷ when b why.Padding ∷ [])) f
+
+-- the header of octets that have so many contributing sources
+pub header_at : (octets : List ℕ) (ver count : ℕ) → 12 ≤ length octets → ver ≡ version octets → ver ≡ 2
+    → count ≡ number_at octets 4 4 → 12 + 4 * count ≤ length octets → IsHeader octets (12 + 4 * count)
+header_at octets ver count fixed is two counted fits = record {
+  fixed = fixed;
+  version = sym is ∙ two;
+  end = ap (λ (n : ℕ). 12 + 4 * n) counted;
+  sources = fits;
+}
+
+-- which rule breaks, by those for the extension and for the padding
+pub by_rules : (octets : List ℕ) (t : ℕ) → IsHeader octets t → (x p : Bool) → x ≡ breaks_extension octets
+    → p ≡ breaks_padding octets → rtp_refusal octets ≡ first (when x why.Extension ∷ when p why.Padding ∷ [])
+by_rules octets t h x p e f =
+    let long : too_long (is_extended octets) (length octets) (sources_end octets) (header_end octets)
+    ≡ too_long (is_extended octets) (length octets) t (header_end octets) =
+    ap (λ n. too_long (is_extended octets) (length octets) n (header_end octets)) (sym h.end) in
+    left_rules octets t h x p (e ∙ long) (sym f)
 
 -- the first three rules
 pub short : (octets : List ℕ) → length octets < 12 → rtp_refusal octets ≡ Some (why.Short (length octets))

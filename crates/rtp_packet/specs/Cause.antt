@@ -11,10 +11,11 @@ abbrev pub Tells : List ℕ → ℕ → Next → Type 0
 Tells octets room (Packet p) = IsFirst octets room p.now × (0 < length p.now)
 Tells octets room Null = IsFirst octets room []
 Tells octets room End = octets ≡ []
-Tells octets room (Truncated have) = (length octets ≡ have) × (0 < have) × (have ≤ room) × IsPartial octets
+Tells octets room (Truncated have) = (length octets ≡ have) × (0 < have) × (have ≤ room)
+    × IsPartial octets
 Tells octets room OverLimit = (room < length octets) × IsPartial (take room octets)
 
--- where the octets left are told and the call is served, the answer has its cause in those held and those left
+-- where the octets left are told and the call is served, they and those held are the answer's cause
 abbrev pub TellsIn : Option (List ℕ) → List ℕ → ℕ → Result Next Failed → Type 0
 TellsIn left held room r = IfSome left (λ all. IfOk r (λ next. Tells (held ++ all) room next))
 

@@ -14,4 +14,5 @@ IsWhole octets = need octets ≤ length octets
 
 -- a record with this packet stands first, within the first `room` octets
 abbrev pub IsFirst : List ℕ → ℕ → List ℕ → Type 0
-IsFirst octets room packet = (length packet < 2 ^ 16) × (2 + length packet ≤ room) × ((more : List ℕ) × (octets ≡ framed packet ++ more))
+IsFirst octets room packet = (length packet < 2 ^ 16) × (2 + length packet ≤ room)
+    × ((more : List ℕ) × (octets ≡ framed packet ++ more))

@@ -1,4 +1,5 @@
--- RTP packets as they are written (RFC 3550, 5.1 and 5.3.1), by whole octets. That the padding octets but the last are 0 is ours.
+-- RTP packets as they are written (RFC 3550, 5.1 and 5.3.1), by whole octets. That the padding
+-- octets but the last are 0 is ours.
 use Rattle.std.specs.Prelude.{◌≡◌, ℕ, ◌+◌, ◌-◌, ◌*◌, ◌/◌, ◌%◌, ◌^◌, ◌<◌, cond, nat_eq, List, [], ◌∷◌, ◌++◌, length, replicate, flat_map, Option, Some, None, is_some, option_map}
 use Rattle.std.specs.Borrow.{Bor}
 use Rattle.spec_packet.specs.Rtp.{Extension, RtpPacket}
@@ -14,7 +15,8 @@ octets_32 n = (n / 16777216 % 256) ∷ (n / 65536 % 256) ∷ (n / 256 % 256) ∷
 
 -- V 2, P where there is padding, X where there is an extension, and CC
 abbrev pub first_octet : RtpPacket → ℕ
-first_octet p = 128 + cond (nat_eq p.padding 0) 0 32 + cond (is_some p.extension) 16 0 + length p.sources
+first_octet p =
+    128 + cond (nat_eq p.padding 0) 0 32 + cond (is_some p.extension) 16 0 + length p.sources
 
 -- M and PT
 abbrev pub second_octet : RtpPacket → ℕ
@@ -22,7 +24,8 @@ second_octet p = cond p.marker 128 0 + p.payload_type
 
 -- the 12 octets of the fixed header
 abbrev pub fixed_octets : RtpPacket → List ℕ
-fixed_octets p = first_octet p ∷ second_octet p ∷ (octets_16 p.sequence ++ octets_32 p.timestamp ++ octets_32 p.ssrc)
+fixed_octets p = first_octet p ∷ second_octet p
+    ∷ (octets_16 p.sequence ++ octets_32 p.timestamp ++ octets_32 p.ssrc)
 
 -- the 16 bits of an extension, the number of its words, and the words
 abbrev pub extension_octets : Option Extension → List ℕ
@@ -35,7 +38,9 @@ padding_octets n = cond (nat_eq n 0) [] (replicate (n - 1) 0 ++ n ∷ [])
 
 -- a packet as it is written
 abbrev pub written : RtpPacket → List ℕ
-written p = fixed_octets p ++ flat_map octets_32 p.sources ++ extension_octets p.extension ++ p.payload ++ padding_octets p.padding
+written p =
+    fixed_octets p ++ flat_map octets_32 p.sources ++ extension_octets p.extension
+    ++ p.payload ++ padding_octets p.padding
 
 -- the packet of fields and a payload
 abbrev pub packet_of : RtpFields → List ℕ → RtpPacket
@@ -62,4 +67,5 @@ extension_size (Some e) = 4 + length e.1.now
 
 -- how many octets a packet has with these fields and a payload of n octets
 abbrev pub packet_size : RtpFields → ℕ → ℕ
-packet_size fields n = 12 + 4 * length fields.sources.now + extension_size fields.extension + n + fields.padding
+packet_size fields n =
+    12 + 4 * length fields.sources.now + extension_size fields.extension + n + fields.padding

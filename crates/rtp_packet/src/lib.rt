@@ -5,7 +5,7 @@
 mod fields;
 mod fit;
 mod header;
-mod law;
+mod laws;
 mod log_reader;
 mod next;
 mod put;
@@ -14,7 +14,7 @@ mod view;
 mod write;
 
 pub use fields::RtpFields;
-pub use law::{
+pub use laws::{
     octets_tell_one_answer, reads_its_grammar, reads_what_is_written, writes_what_is_read,
 };
 pub use log_reader::LogReader;
@@ -25,6 +25,6 @@ pub use view::RtpView;
 pub use write::{size_rtp, write_rtp};
 
 #[cfg(test)]
-mod rtp_tests;
+mod log_tests;
 #[cfg(test)]
-mod tests;
+mod rtp_tests;

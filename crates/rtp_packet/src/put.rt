@@ -51,7 +51,8 @@ pub(crate) fn put_extension(out: &mut [u8], at: usize, bits: u16, words: &[u8]) 
     requires words { IsWords words.now }
     requires fits { at + 4 + length words.now ≤ length out.old }
     ensures end { result ≡ at + 4 + length words.now }
-    ensures front { take result out.new ≡ take at out.old ++ (octets_16 bits ++ octets_16 (length words.now / 4) ++ words.now) }
+    ensures front { take result out.new ≡ take at out.old
+        ++ (octets_16 bits ++ octets_16 (length words.now / 4) ++ words.now) }
 {
     let behind_bits = put(out, at, &two_octets(bits));
     let head_end = put(out, behind_bits, &two_octets((words.len() / 4) as u16));

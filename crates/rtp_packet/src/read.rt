@@ -1,6 +1,6 @@
-ghost use Rattle.std.specs.Prelude.{◌≡◌, ◌↔◌, ◌+◌, ◌*◌, ◌≤◌, ◌<◌, ◌&&◌, ◌||◌, nat_eq, nat_lt, length, IsOk, IfOk, IfErr, is_none, IfSome, Ok};
+ghost use Rattle.std.specs.Prelude.{◌≡◌, ◌↔◌, ◌+◌, ◌*◌, ◌≤◌, ◌<◌, length, IsOk, IfOk, IfErr, is_none, IfSome, Ok};
 ghost use Rattle.spec_packet.specs.Rtp.{IsPacket, RtpPacket};
-ghost use Rattle.spec_packet.specs.RtpReading.{rtp_of, rtp_refusal, packet_at, padding_in, is_padded as has_padding, is_extended as has_extension, sources_end as end_of_sources, header_end as end_of_header};
+ghost use Rattle.spec_packet.specs.RtpReading.{rtp_of, rtp_refusal, packet_at, padding_in, breaks_extension, breaks_padding, sources_end as end_of_sources, header_end as end_of_header};
 ghost use Rattle.rtp_packet.specs.View.{packet, read_of};
 
 use crate::fit::are_octets;
@@ -46,9 +46,9 @@ pub fn read_rtp(octets: &[u8]) -> Result<RtpView<'_>, RtpRefusal>
 fn header_end(octets: &[u8], sources_end: usize) -> Option<usize>
     requires sources { sources_end ≡ end_of_sources octets.now }
     requires fits { sources_end ≤ length octets.now }
-    ensures end { IfSome result (λ end. (end ≡ end_of_header octets.now) × (sources_end ≤ end) × (end ≤ length octets.now)) }
-    ensures none { is_none result ≡ (has_extension octets.now
-        && (nat_lt (length octets.now) (sources_end + 4) || nat_lt (length octets.now) (end_of_header octets.now))) }
+    ensures end { IfSome result (λ end. (end ≡ end_of_header octets.now)
+        × (sources_end ≤ end) × (end ≤ length octets.now)) }
+    ensures none { is_none result ≡ breaks_extension octets.now }
 {
     if !is_extended(octets) {
         return Some(sources_end);
@@ -67,10 +67,11 @@ fn header_end(octets: &[u8], sources_end: usize) -> Option<usize>
 /// than the octets there.
 fn padding_of(octets: &[u8], header_size: usize) -> Option<u8>
     requires any { 0 < length octets.now }
+    requires header { header_size ≡ end_of_header octets.now }
     requires fits { header_size ≤ length octets.now }
-    ensures padding { IfSome result (λ n. (n ≡ padding_in octets.now) × (header_size + n ≤ length octets.now)) }
-    ensures none { is_none result ≡ (has_padding octets.now
-        && (nat_eq (padding_in octets.now) 0 || nat_lt (length octets.now) (header_size + padding_in octets.now))) }
+    ensures padding { IfSome result
+        (λ n. (n ≡ padding_in octets.now) × (header_size + n ≤ length octets.now)) }
+    ensures none { is_none result ≡ breaks_padding octets.now }
 {
     if !is_padded(octets) {
         return Some(0);

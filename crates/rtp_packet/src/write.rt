@@ -57,7 +57,8 @@ fn put_any_extension(out: &mut [u8], at: usize, extension: Option<(u16, &[u8])>)
     requires words { IfSome extension (λ e. IsWords e.1.now) }
     requires fits { at + size_of_extension extension ≤ length out.old }
     ensures end { result ≡ at + size_of_extension extension.entry }
-    ensures front { take result out.new ≡ take at out.old ++ extension_octets (option_map (λ e. extension_of e.0 e.1.now) extension.entry) }
+    ensures front { take result out.new ≡ take at out.old
+        ++ extension_octets (option_map (λ e. extension_of e.0 e.1.now) extension.entry) }
 {
     match extension {
         None => at,

@@ -1,7 +1,6 @@
 -- The octets and plans of the worked examples of sending.
 use Rattle.std.specs.Prelude.{ℕ, Bool, not, ◌||◌, nat_eq, true, false, take, List, [], ◌∷◌, ◌++◌, replicate, map, None}
 use Rattle.std.specs.List.{range_with_len}
-use Rattle.amr_frame.specs.declared.profile.Profile.{Profile}
 use Rattle.amr_frame.specs.Frames.{Frame, no_data}
 use Rattle.spec_sending.specs.declared.plan.SendPlan.{SendPlan}
 use Rattle.spec_sending.specs.Left.{left}
@@ -11,22 +10,7 @@ use Rattle.spec_session.specs.Release.{released}
 use Rattle.spec_session.specs.Session.{rules_of}
 use Rattle.spec_packet.specs.Log.{cut}
 use Rattle.spec_stream.specs.Streaming.{log_of_packets}
-use Rattle.worked_rows.specs.Words.{frame, interleaved, magic, packed, two_channels, zeros}
-
--- one block a packet, no groups, no repeats; from 0 on, with payload type 96 and no mode request
-abbrev pub plan : Profile → SendPlan
-plan p = record {
-  profile = p;
-  blocks = 1;
-  length = 1;
-  repeat = 0;
-  skip_empty = false;
-  cmr = 15;
-  pt = 96;
-  ssrc = 0;
-  seq = 0;
-  ts = 0;
-}
+use Rattle.worked_rows.specs.Words.{frame, interleaved, magic, packed, plan, two_channels, zeros}
 
 -- groups of two packets of two blocks
 abbrev pub grouping : SendPlan

@@ -1,9 +1,9 @@
-ghost use Rattle.sending_rows.specs.Sends.{call, five_of_eight, four_of_six, long_call, plan, read_back, repaired, repeating, without_three};
+ghost use Rattle.sending_rows.specs.Sends.{call, five_of_eight, four_of_six, long_call, read_back, repaired, repeating, without_three};
 ghost use Rattle.spec_packet.specs.Rtp.{RtpPacket};
 ghost use Rattle.spec_sending.specs.Portions.{Portion};
 ghost use Rattle.spec_sending.specs.Sending.{begun, carried, sendings, sent};
 ghost use Rattle.std.specs.Prelude.{◌++◌, ◌∷◌, ◌≡◌, [], false, length, map, replicate, true, ℕ};
-ghost use Rattle.worked_rows.specs.Words.{packed};
+ghost use Rattle.worked_rows.specs.Words.{packed, plan};
 
 /// How many packets a call sends, with and without those of NO_DATA alone.
 pub fn calls_with_repeats()

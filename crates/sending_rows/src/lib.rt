@@ -12,5 +12,5 @@ mod runs;
 pub use calls::{calls_repaired, calls_with_repeats, fields_of_packets};
 pub use files::{blocks_before_a_fault, cut_files, files_that_show_a_fault, free_places};
 pub use packets::{groups_and_rest, places_in_groups, streamed_frames};
-pub use plans::{refused_plans, valid_plans};
-pub use runs::{converted_logs, notes_of_runs, streams_end, what_goes_out_early};
+pub use plans::{refused_groups, refused_plans, valid_plans};
+pub use runs::{converted_logs, notes_of_runs, refused_streams, streams_end, what_goes_out_early};

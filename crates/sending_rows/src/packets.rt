@@ -1,10 +1,10 @@
-ghost use Rattle.sending_rows.specs.Sends.{blocks, grouping, plan, silence, stored_silence};
+ghost use Rattle.sending_rows.specs.Sends.{blocks, grouping, silence, stored_silence};
 ghost use Rattle.spec_packet.specs.Log.{framed};
 ghost use Rattle.spec_sending.specs.Groups.{GroupPlace, block_at_place, place_of_block};
 ghost use Rattle.spec_sending.specs.Portions.{begun_portions, portions};
 ghost use Rattle.spec_stream.specs.Streaming.{output_of};
 ghost use Rattle.std.specs.Prelude.{◌++◌, ◌∷◌, ◌≡◌, List, [], length, ℕ};
-ghost use Rattle.worked_rows.specs.Words.{file, magic, packed, rec, seven, zeros};
+ghost use Rattle.worked_rows.specs.Words.{file, magic, packed, plan, rec, seven, zeros};
 
 /// One frame for a packet; the marker is set where speech begins.
 pub fn streamed_frames()

@@ -1,12 +1,12 @@
 ghost use Rattle.run_report.specs.Lines.{no_counts};
-ghost use Rattle.sending_rows.specs.Sends.{grouping, plan, stored_silence};
+ghost use Rattle.sending_rows.specs.Sends.{grouping, stored_silence};
 ghost use Rattle.spec_run.specs.LogRuns.{records_of};
 ghost use Rattle.spec_store.specs.declared.refusal.StoreRefusal.TheVariants as why;
 ghost use Rattle.spec_stream.specs.Converting.{counts_from, early_from, log_from};
 ghost use Rattle.spec_stream.specs.Notes.{converted_lines, refused_line, sent_line};
 ghost use Rattle.spec_stream.specs.Streaming.{Done, LimitReached, Refused, counts_of, early_of, end_of, output_of};
 ghost use Rattle.std.specs.Prelude.{◌++◌, ◌∷◌, ◌≡◌, [], codes};
-ghost use Rattle.worked_rows.specs.Words.{aligned, magic, packed, rec, recording, seven, two_channels, zeros};
+ghost use Rattle.worked_rows.specs.Words.{aligned, magic, packed, plan, rec, recording, seven, two_channels, zeros};
 
 /// How streaming ends: a fault that the octets within the limit show goes before the limit, one
 /// that only their end tells goes behind it.
@@ -14,12 +14,17 @@ pub fn streams_end()
     ensures done { end_of (plan packed) 13 (magic ++ stored_silence ++ 0x7C ∷ []) ≡ Done }
     ensures limit { end_of (plan packed) 12 (magic ++ stored_silence ++ 0x7C ∷ []) ≡ LimitReached }
     ensures limit_in_a_frame { end_of (plan packed) 8 (magic ++ stored_silence) ≡ LimitReached }
-    ensures cut_in_a_frame { end_of (plan packed) 8 (magic ++ 0x3C ∷ 0x00 ∷ [])
-        ≡ Refused (why.Truncated 6) }
     ensures empty { end_of (plan packed) 1 [] ≡ Refused why.Magic }
     ensures one_octet { end_of (plan packed) 1 (0x23 ∷ []) ≡ Refused why.Magic }
     ensures two_octets { end_of (plan packed) 1 (0x23 ∷ 0x21 ∷ []) ≡ LimitReached }
     ensures other_octet { end_of (plan packed) 1 (0x24 ∷ 0x21 ∷ []) ≡ Refused why.Magic }
+{}
+
+/// What of a file ends streaming: a frame that is cut, a reserved type within the limit, another
+/// number of channels.
+pub fn refused_streams()
+    ensures cut_in_a_frame { end_of (plan packed) 8 (magic ++ 0x3C ∷ 0x00 ∷ [])
+        ≡ Refused (why.Truncated 6) }
     ensures reserved { end_of (plan packed) 7 (magic ++ 0x4C ∷ 0x00 ∷ [])
         ≡ Refused (why.Reserved 6 9) }
     ensures reserved_past_it { end_of (plan packed) 7 (magic ++ 0x7C ∷ 0x4C ∷ []) ≡ LimitReached }

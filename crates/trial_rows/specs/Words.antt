@@ -1,32 +1,16 @@
 -- The words of the worked examples of trials.
-use Rattle.std.specs.Prelude.{ℕ, false, List, map}
+use Rattle.std.specs.Prelude.{ℕ, List, map, None}
 use Rattle.amr_frame.specs.Frames.{Frame}
-use Rattle.spec_sending.specs.declared.plan.SendPlan.{SendPlan}
 use Rattle.spec_trial.specs.Delivery.{Fate, Line, delivery}
 use Rattle.spec_trial.specs.Trials.{Trial, blocks_of}
-use Rattle.worked_rows.specs.Words.{packed, recording}
-
--- a plan of one block a packet, without repeats and skipping, of payload type 96 and no request
-abbrev pub plain_plan : SendPlan
-plain_plan = record {
-  profile = packed;
-  blocks = 1;
-  length = 1;
-  repeat = 0;
-  skip_empty = false;
-  cmr = 15;
-  pt = 96;
-  ssrc = 0;
-  seq = 0;
-  ts = 0;
-}
+use Rattle.worked_rows.specs.Words.{packed, plan, recording}
 
 -- so many blocks of AMR, made from a number
 abbrev pub trial : ℕ → ℕ → Trial
 trial count seed = record {
   count = count;
   seed = seed;
-  sending = plain_plan;
+  sending = plan packed;
   recording = recording packed 256;
 }
 
@@ -41,3 +25,8 @@ types t = map (λ block. map (λ (f : Frame). f.ft) block) (blocks_of t)
 -- what becomes of the packets 1, 2, 3 ..
 abbrev pub line : List ℕ → List Fate → Line ℕ
 line packets fs = delivery packets fs
+
+-- these were delivered, one of them behind the next; none waits, none was lost or sent twice
+abbrev pub one_held : List ℕ → Line ℕ
+one_held packets =
+    record { delivered = packets; waiting = None; lost = 0; doubled = 0; held = 1 }

@@ -1,8 +1,8 @@
 use Rattle.std.proofs.Common.{◌≡◌, ℕ, ◌+◌, ◌*◌, length, true, false, Some, None, Ok, sym, ap, ◌∙◌, refl}
-use Rattle.spec_packet.specs.RtpReading.{rtp_refusal, packet_at, is_padded, sources_end, header_end, padding_in}
+use Rattle.spec_packet.specs.RtpReading.{rtp_refusal, packet_at, breaks_padding}
 use Rattle.spec_packet.specs.declared.refusal.RtpRefusal.TheVariants as why
 use Rattle.rtp_packet.proofs.Grammar.{by_grammar}
-use Rattle.rtp_packet.proofs.Refusals.{IsHeader, short, other_version, few_sources, left_rules, same_padded, too_padded, refused, taken, not_accepted}
+use Rattle.rtp_packet.proofs.Refusals.{short, other_version, few_sources, by_rules, header_at, refused, taken, not_accepted}
 use Rattle.rtp_packet.proofs.read.read_rtp.Goals as goal
 
 pub returns-then-octets-lt12-clause-reads : goal.returns-then-octets-lt12-clause-reads
@@ -21,10 +21,9 @@ returns-then-octets-sources_end-clause-reads c =
 extension : (c : goal.In_default) → rtp_refusal c.args.octets.now ≡ Some why.Extension
 extension c =
     let octets = c.args.octets.now in
-    let t = 12 + 4 * c.source_count.result in
-    let ends : 12 + 4 * c.source_count.result ≡ sources_end octets = ap (λ (n : ℕ). 12 + 4 * n) c.source_count.ensures.count in
-    let header : IsHeader octets t = record { fixed = c.if-octets-lt12.false; version = sym c.version_in-version.ensures ∙ c.if-version-ne2.false; end = ends; sources = c.if-octets-sources_end.false } in
-    left_rules octets t header true (too_padded (is_padded octets) (length octets) (header_end octets) (padding_in octets)) c.in_default.ensures.none refl
+    let header = header_at octets c.version_in-version.result c.source_count.result c.if-octets-lt12.false
+    c.version_in-version.ensures c.if-version-ne2.false c.source_count.ensures.count c.if-octets-sources_end.false in
+    by_rules octets (12 + 4 * c.source_count.result) header true (breaks_padding octets) c.in_default.ensures.none refl
 
 pub returns-in_default-clause-accepted : goal.returns-in_default-clause-accepted
 returns-in_default-clause-accepted c = not_accepted (rtp_refusal c.args.octets.now) why.Extension (extension c)
@@ -39,11 +38,9 @@ returns-in_default-clause-reads c = refused c.args.octets.now why.Extension (ext
 padding : (c : goal.In_default-padding_of) → rtp_refusal c.args.octets.now ≡ Some why.Padding
 padding c =
     let octets = c.args.octets.now in
-    let t = 12 + 4 * c.source_count.result in
-    let ends : 12 + 4 * c.source_count.result ≡ sources_end octets = ap (λ (n : ℕ). 12 + 4 * n) c.source_count.ensures.count in
-    let header : IsHeader octets t = record { fixed = c.if-octets-lt12.false; version = sym c.version_in-version.ensures ∙ c.if-version-ne2.false; end = ends; sources = c.if-octets-sources_end.false } in
-    left_rules octets t header false true c.in-Some.ensures.none
-    (same_padded (is_padded octets) true (length octets) c.in-Some.header_size (header_end octets) (padding_in octets) c.in-Some.ensures.end.0 c.in_default-padding_of.ensures.none)
+    let header = header_at octets c.version_in-version.result c.source_count.result c.if-octets-lt12.false
+    c.version_in-version.ensures c.if-version-ne2.false c.source_count.ensures.count c.if-octets-sources_end.false in
+    by_rules octets (12 + 4 * c.source_count.result) header false true c.in-Some.ensures.none c.in_default-padding_of.ensures.none
 
 pub returns-in_default-padding_of-clause-accepted : goal.returns-in_default-padding_of-clause-accepted
 returns-in_default-padding_of-clause-accepted c = not_accepted (rtp_refusal c.args.octets.now) why.Padding (padding c)
@@ -58,11 +55,9 @@ returns-in_default-padding_of-clause-reads c = refused c.args.octets.now why.Pad
 none : (c : goal.After-over) → rtp_refusal c.args.octets.now ≡ None
 none c =
     let octets = c.args.octets.now in
-    let t = 12 + 4 * c.source_count.result in
-    let ends : 12 + 4 * c.source_count.result ≡ sources_end octets = ap (λ (n : ℕ). 12 + 4 * n) c.source_count.ensures.count in
-    let header : IsHeader octets t = record { fixed = c.if-octets-lt12.false; version = sym c.version_in-version.ensures ∙ c.if-version-ne2.false; end = ends; sources = c.if-octets-sources_end.false } in
-    left_rules octets t header false false c.in-Some.ensures.none
-    (same_padded (is_padded octets) false (length octets) c.in-Some.header_size (header_end octets) (padding_in octets) c.in-Some.ensures.end.0 c.in-Some-padding_of.ensures.none)
+    let header = header_at octets c.version_in-version.result c.source_count.result c.if-octets-lt12.false
+    c.version_in-version.ensures c.if-version-ne2.false c.source_count.ensures.count c.if-octets-sources_end.false in
+    by_rules octets (12 + 4 * c.source_count.result) header false false c.in-Some.ensures.none c.in-Some-padding_of.ensures.none
 
 pub returns-clause-accepted : goal.returns-clause-accepted
 returns-clause-accepted c = (λ t. none c, λ n. refl)

@@ -1,6 +1,6 @@
 use Rattle.std.proofs.Common.{sym, ◌∙◌}
 use Rattle.rtp_packet.proofs.Grammar.{accepts, reads, has, exactly}
-use Rattle.rtp_packet.proofs.law.reads_its_grammar.Goals as goal
+use Rattle.rtp_packet.proofs.laws.reads_its_grammar.Goals as goal
 
 pub returns : goal.returns
 returns c = record {
