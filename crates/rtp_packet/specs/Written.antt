@@ -1,6 +1,6 @@
 -- RTP packets as they are written (RFC 3550, 5.1 and 5.3.1), by whole octets. That the padding
 -- octets but the last are 0 is ours.
-use Rattle.std.specs.Prelude.{◌≡◌, ℕ, ◌+◌, ◌-◌, ◌*◌, ◌/◌, ◌%◌, ◌^◌, ◌<◌, cond, nat_eq, List, [], ◌∷◌, ◌++◌, length, replicate, flat_map, Option, Some, None, is_some, option_map}
+use Rattle.std.specs.Prelude.{◌≡◌, ℕ, ◌+◌, ◌-◌, ◌*◌, ◌/◌, ◌%◌, ◌^◌, ◌≤◌, ◌<◌, cond, nat_eq, List, [], ◌∷◌, ◌++◌, length, replicate, flat_map, Option, Some, None, is_some, option_map, IfSome}
 use Rattle.std.specs.Borrow.{Bor}
 use Rattle.spec_packet.specs.Rtp.{Extension, RtpPacket}
 use Rattle.rtp_packet.specs.View.{extension_of}
@@ -59,6 +59,12 @@ packet_of fields payload = record {
 -- octets are whole words, of which 16 bits can tell the number
 abbrev pub IsWords : List ℕ → Type 0
 IsWords octets = (length octets % 4 ≡ 0) × (length octets / 4 < 2 ^ 16)
+
+-- fields that fit the places of a header
+pub record AreWritable (fields : RtpFields) : Type 0 where
+  pub payload_type : fields.payload_type ≤ 127
+  pub sources : length fields.sources.now ≤ 15
+  pub extension : IfSome fields.extension (λ e. IsWords e.1.now)
 
 -- how many octets an extension takes, its head included
 abbrev pub extension_size : Option (ℕ × Bor (List ℕ)) → ℕ

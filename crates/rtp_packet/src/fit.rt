@@ -1,18 +1,17 @@
-// That the fields of a header fit their places: what the types say of them. Each call says so, and does nothing.
+// That the fields of a header fit their places: what the types say of them. Each call says so, and
+// does nothing.
 ghost use Rattle.std.specs.Prelude.{◌≡◌, ◌≤◌, ◌<◌, ◌^◌, ℕ, length, option_map, IfSome};
 ghost use Rattle.std.specs.List.{AllByRecursion};
 ghost use Rattle.amr_bits.specs.Bits.{AreOctets};
 ghost use Rattle.rtp_packet.specs.Fields.{AreFields, FitsExtension};
 ghost use Rattle.rtp_packet.specs.View.{extension_of};
-ghost use Rattle.rtp_packet.specs.Written.{packet_of, IsWords};
+ghost use Rattle.rtp_packet.specs.Written.{packet_of, AreWritable, IsWords};
 
 use crate::fields::RtpFields;
 
 /// Each field fits its place.
 pub(crate) fn fit_places(fields: &RtpFields<'_>, payload: &[u8])
-    requires payload_type { fields.now.payload_type ≤ 127 }
-    requires sources { length fields.now.sources.now ≤ 15 }
-    requires extension { IfSome fields.now.extension (λ e. IsWords e.1.now) }
+    requires fields { AreWritable fields.now }
     ensures { AreFields (packet_of fields.now payload.now) }
 {
     numbers_fit(

@@ -1,7 +1,7 @@
 ghost use Rattle.std.specs.Prelude.{◌≡◌, ℕ, List, ◌+◌, ◌≤◌, ◌++◌, length, take, flat_map, option_map, IfSome, Ok};
 ghost use Rattle.spec_packet.specs.RtpReading.{rtp_of};
 ghost use Rattle.rtp_packet.specs.View.{extension_of};
-ghost use Rattle.rtp_packet.specs.Written.{octets_32, fixed_octets, extension_octets, packet_of, written, packet_size, extension_size as size_of_extension, IsWords};
+ghost use Rattle.rtp_packet.specs.Written.{octets_32, fixed_octets, extension_octets, packet_of, written, packet_size, extension_size as size_of_extension, AreWritable, IsWords};
 
 use crate::fields::RtpFields;
 use crate::fit::fit_places;
@@ -68,8 +68,7 @@ fn put_any_extension(out: &mut [u8], at: usize, extension: Option<(u16, &[u8])>)
 
 /// The 12 octets of the fixed header.
 fn fixed_header(fields: &RtpFields<'_>) -> [u8; 12]
-    requires payload_type { fields.now.payload_type ≤ 127 }
-    requires sources { length fields.now.sources.now ≤ 15 }
+    requires fields { AreWritable fields.now }
     ensures { (payload : List ℕ) → result ≡ fixed_octets (packet_of fields.now payload) }
 {
     let padded = if fields.padding == 0 { 0 } else { 32 };
