@@ -1,6 +1,7 @@
 ghost use Rattle.std.specs.Prelude.{◌≡◌, ℕ, ◌+◌, ◌*◌, ◌/◌, ◌%◌, ◌^◌, ◌-◌, ◌≤◌, ◌<◌, length, map, slice_index};
 ghost use Rattle.std.specs.List.{range_with_len};
 ghost use Rattle.amr_bits.specs.Bits.{number_at, octets_for};
+ghost use Rattle.amr_bits.specs.Shifted.{AreCopied, IsNear, IsShift, IsShifted, IsSpelt};
 
 /// How many octets are copied at once: as many as one instruction works on.
 const BLOCK: usize = 16;
@@ -17,11 +18,9 @@ pub fn octets_needed(bits: usize) -> usize
 
 /// The number that the `width` bits from bit `start` on spell.
 pub fn number_from(octets: &[u8], start: usize, width: usize) -> u32
-    requires start { start < 8 }
+    requires near { IsNear octets.now start width }
     requires width { width ≤ 32 }
-    requires fits { start + width ≤ 8 * length octets.now }
-    ensures bits { result ≡ number_at octets.now start width }
-    ensures below { result < 2 ^ width }
+    ensures spelt { IsSpelt octets.now start width result }
 {
     if 0 < width && start + width <= 16 {
         return few_from(octets, start, width);
@@ -37,12 +36,10 @@ pub fn number_from(octets: &[u8], start: usize, width: usize) -> u32
 
 /// The number that bits in one octet or across two spell, with no loop.
 pub fn few_from(octets: &[u8], start: usize, width: usize) -> u32
-    requires start { start < 8 }
+    requires near { IsNear octets.now start width }
     requires some { 0 < width }
     requires two { start + width ≤ 16 }
-    requires fits { start + width ≤ 8 * length octets.now }
-    ensures bits { result ≡ number_at octets.now start width }
-    ensures below { result < 2 ^ width }
+    ensures spelt { IsSpelt octets.now start width result }
 {
     let end = start + width;
     let modulus = 1u64 << width as u32;
@@ -56,42 +53,24 @@ pub fn few_from(octets: &[u8], start: usize, width: usize) -> u32
 
 /// Copies whole octets that begin at bit `start`: `out` takes the bits from there on.
 pub fn copy_octets(octets: &[u8], start: usize, out: &mut [u8])
-    requires start { start < 8 }
-    requires fits { start + 8 * length out.old ≤ 8 * length octets.now }
-    ensures { out.new ≡ map (λ k. number_at octets.now (8 * k + start) 8)
-        (range_with_len 0 (length out.old)) }
+    requires near { IsNear octets.now start (8 * length out.old) }
+    ensures { AreCopied octets.now start out.old out.new }
 {
     if start == 0 {
         out.copy_from_slice(&octets[..out.len()]);
-    } else {
-        copy_shifted(octets, start as u32, out);
-    }
-}
-
-/// Copies whole octets that stand across two each.
-fn copy_shifted(octets: &[u8], shift: u32, out: &mut [u8])
-    requires above { 0 < shift }
-    requires below { shift < 8 }
-    requires fits { length out.old < length octets.now }
-    ensures { out.new ≡ map (λ k. number_at octets.now (8 * k + shift) 8)
-        (range_with_len 0 (length out.old)) }
-{
-    if out.len() < WORD {
-        copy_each(octets, shift, out);
+    } else if out.len() < WORD {
+        copy_each(octets, start as u32, out);
     } else if out.len() < BLOCK {
-        copy_words(octets, shift, out);
+        copy_words(octets, start as u32, out);
     } else {
-        copy_blocks(octets, shift, out);
+        copy_blocks(octets, start as u32, out);
     }
 }
 
 /// Copies octets that stand across two each, one by one.
 fn copy_each(octets: &[u8], shift: u32, out: &mut [u8])
-    requires above { 0 < shift }
-    requires below { shift < 8 }
-    requires fits { length out.old < length octets.now }
-    ensures { out.new ≡ map (λ k. number_at octets.now (8 * k + shift) 8)
-        (range_with_len 0 (length out.old)) }
+    requires shifted { IsShifted octets.now shift out.old }
+    ensures { AreCopied octets.now shift out.old out.new }
 {
     for at in 0..out.len() {
         out[at] = across(octets[at], octets[at + 1], shift);
@@ -100,13 +79,10 @@ fn copy_each(octets: &[u8], shift: u32, out: &mut [u8])
 
 /// Copies octets that stand across two each as two words, of which the last may lie over the first.
 fn copy_words(octets: &[u8], shift: u32, out: &mut [u8])
-    requires above { 0 < shift }
-    requires below { shift < 8 }
+    requires shifted { IsShifted octets.now shift out.old }
     requires word { 8 ≤ length out.old }
     requires most { length out.old ≤ 16 }
-    requires fits { length out.old < length octets.now }
-    ensures { out.new ≡ map (λ k. number_at octets.now (8 * k + shift) 8)
-        (range_with_len 0 (length out.old)) }
+    ensures { AreCopied octets.now shift out.old out.new }
 {
     let last = out.len() - WORD;
     copy_word(octets, shift, out, 0);
@@ -115,10 +91,8 @@ fn copy_words(octets: &[u8], shift: u32, out: &mut [u8])
 
 /// Copies the word from octet `at` on, and leaves the octets before it.
 fn copy_word(octets: &[u8], shift: u32, out: &mut [u8], at: usize)
-    requires above { 0 < shift }
-    requires below { shift < 8 }
+    requires shifted { IsShifted octets.now shift out.old }
     requires word { at + 8 ≤ length out.old }
-    requires fits { length out.old < length octets.now }
     ensures copied { (k : ℕ) → at ≤ k → k < at + 8
         → slice_index out.new k ≡ number_at octets.now (8 * k + shift) 8 }
     ensures before { (k : ℕ) → k < at → slice_index out.new k ≡ slice_index out.old k }
@@ -131,8 +105,7 @@ fn copy_word(octets: &[u8], shift: u32, out: &mut [u8], at: usize)
 
 /// The word from octet `at` on, without the bits of a ninth octet that come into its last.
 fn word_at(octets: &[u8], shift: u32, at: usize) -> [u8; WORD]
-    requires above { 0 < shift }
-    requires below { shift < 8 }
+    requires shift { IsShift shift }
     requires fits { at + 8 ≤ length octets.now }
     ensures { (k : ℕ) → k < 7
         → slice_index result k ≡ number_at octets.now (8 * (at + k) + shift) 8 }
@@ -152,12 +125,9 @@ fn word_at(octets: &[u8], shift: u32, at: usize) -> [u8; WORD]
 
 /// Copies octets that stand across two each, a block at a time; the last block may lie over the one before it.
 fn copy_blocks(octets: &[u8], shift: u32, out: &mut [u8])
-    requires above { 0 < shift }
-    requires below { shift < 8 }
+    requires shifted { IsShifted octets.now shift out.old }
     requires block { 16 ≤ length out.old }
-    requires fits { length out.old < length octets.now }
-    ensures { out.new ≡ map (λ k. number_at octets.now (8 * k + shift) 8)
-        (range_with_len 0 (length out.old)) }
+    ensures { AreCopied octets.now shift out.old out.new }
 {
     let last = out.len() - BLOCK;
     let mut at = 0;
@@ -170,10 +140,8 @@ fn copy_blocks(octets: &[u8], shift: u32, out: &mut [u8])
 
 /// Copies the block from octet `at` on, and leaves the octets before it.
 fn copy_block(octets: &[u8], shift: u32, out: &mut [u8], at: usize)
-    requires above { 0 < shift }
-    requires below { shift < 8 }
+    requires shifted { IsShifted octets.now shift out.old }
     requires block { at + 16 ≤ length out.old }
-    requires fits { length out.old < length octets.now }
     ensures copied { (k : ℕ) → at ≤ k → k < at + 16
         → slice_index out.new k ≡ number_at octets.now (8 * k + shift) 8 }
     ensures before { (k : ℕ) → k < at → slice_index out.new k ≡ slice_index out.old k }
@@ -184,8 +152,7 @@ fn copy_block(octets: &[u8], shift: u32, out: &mut [u8], at: usize)
 /// The block from octet `at` on. It is made as a whole before any of it is written, so that the compiler need not ask
 /// whether what is written lies over what is read, and takes all octets at once.
 fn block_at(octets: &[u8], shift: u32, at: usize) -> [u8; BLOCK]
-    requires above { 0 < shift }
-    requires below { shift < 8 }
+    requires shift { IsShift shift }
     requires fits { at + 16 < length octets.now }
     ensures { (k : ℕ) → k < 16
         → slice_index result k ≡ number_at octets.now (8 * (at + k) + shift) 8 }
@@ -200,8 +167,7 @@ fn block_at(octets: &[u8], shift: u32, at: usize) -> [u8; BLOCK]
 
 /// The octet that begins at bit `shift` of the first of two octets.
 fn across(first: u8, second: u8, shift: u32) -> u8
-    requires above { 0 < shift }
-    requires below { shift < 8 }
+    requires shift { IsShift shift }
     ensures { result ≡ (256 * first + second) / 2 ^ (8 - shift) % 256 }
 {
     first << shift | second >> (8 - shift)

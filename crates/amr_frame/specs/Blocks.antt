@@ -1,5 +1,5 @@
--- Blocks as cells, and what a sink of blocks got. A block is the frames of all channels of one frame
--- time (RFC 4867, 3.2).
+-- Blocks as cells, and what a sink of blocks got. A block is the frames of all channels of one
+-- frame time (RFC 4867, 3.2).
 use Rattle.std.specs.Prelude.{◌≡◌, ◌⊎◌, ℕ, IsTrue, List, [], ◌∷◌, ◌++◌, map}
 use Rattle.std.specs.List.{AllByRecursion}
 use Rattle.amr_frame.specs.declared.cell.Cell.{Cell}

@@ -3,7 +3,8 @@ use Rattle.std.specs.Prelude.{ℕ, Bool, List}
 use Rattle.amr_frame.specs.declared.cell.Cell.{Cell}
 use Rattle.amr_frame.specs.declared.codec.Codec.{Codec}
 
--- what its blocks are of, for how many it has room, the cells got, its faults, and whether it is ready
+-- what its blocks are of, for how many it has room, the cells got, its faults, and whether it is
+-- ready
 pub record Shelf : Type 0 where
   pub codec : Codec
   pub channels : ℕ

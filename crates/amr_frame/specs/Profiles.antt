@@ -1,6 +1,6 @@
 -- Which payload formats there are (RFC 4867, 4.1 and 8; RFC 3551, 4.1: up to six channels).
 -- The greatest group of 1024 blocks and the greatest payload of 64 blocks are this project's own.
-use Rattle.std.specs.Prelude.{◌≡◌, ℕ, min, Bool, not, ◌&&◌, ◌||◌, nat_eq, nat_lt, [], ◌∷◌, Option, Some, None, is_some}
+use Rattle.std.specs.Prelude.{◌≡◌, ℕ, min, Bool, false, not, ◌&&◌, ◌||◌, nat_eq, nat_lt, [], ◌∷◌, Option, Some, None, is_some}
 use Rattle.amr_frame.specs.declared.profile.Profile.{Profile}
 use Rattle.amr_frame.specs.declared.profile.ProfileFault.{ProfileFault}
 use Rattle.amr_frame.specs.declared.profile.ProfileFault.TheVariants as fault
@@ -8,7 +8,7 @@ use Rattle.amr_frame.specs.First.{when, first}
 
 -- whether the format is asked to interleave groups of no block
 abbrev pub is_empty_group : Option ℕ → Bool
-is_empty_group None = nat_lt 0 0
+is_empty_group None = false
 is_empty_group (Some blocks) = nat_eq blocks 0
 
 -- the first rule that a payload format breaks: B1 to B4

@@ -11,8 +11,8 @@ pub record TakesBlocks {S : Type 0} (b : blocks.Ghosts S) (c : Codec) (n : ℕ) 
   pub codec : b.codec sink ≡ c
   pub channels : b.channels sink ≡ n
 
--- it failed only where the sink's faults rose, and the sink then takes no more blocks; else it takes
--- blocks as before; it still writes to the same object
+-- it failed only where the sink's faults rose, and the sink then takes no more blocks; else it
+-- takes blocks as before; it still writes to the same object
 pub record BlockStep {S A E : Type 0} (b : blocks.Ghosts S) (old new : S) (result : Result A E)
     : Type 0 where
   pub cause : HasCause (b.faults old) (b.faults new) result

@@ -10,8 +10,8 @@ pub record MemorySourceState : Type 0 where
   pub calls : ℕ
   pub faults : ℕ
 
--- the octets got, the room for all of them, how many a write takes at most, the numbers of the calls
--- that fail, how many calls were made, and how many of them failed
+-- the octets got, the room for all of them, how many a write takes at most, the numbers of the
+-- calls that fail, how many calls were made, and how many of them failed
 pub record MemorySinkState : Type 0 where
   pub octets : List ℕ
   pub room : ℕ

@@ -1,6 +1,6 @@
 // The trusted edge: std's readers and writers as a source and a sink.
 ghost use Rattle.std.specs.Prelude.{◌≡◌, ◌+◌, ◌-◌, ◌^◌, ◌<◌, ℕ, List, [], length, min, Some, OnErr};
-ghost use Rattle.amr_io.specs.Fault.{HasCause};
+ghost use Rattle.amr_io.specs.Fault.{CountsFault};
 ghost use Rattle.amr_io.specs.Told.{Reads, Writes};
 ghost use Rattle.amr_io.specs.Edge.{Counted};
 
@@ -42,9 +42,9 @@ impl<R: Read> Source for ReadSource<R> {
     fn read(&mut self, buf: &mut [u8]) -> Result<usize, Failed>
         requires room { 0 < length buf.old }
 
-        ensures octets { Reads (R.remaining self.old.inner) (R.remaining self.new.inner) result buf.new }
-        ensures cause { HasCause self.old.faults self.new.faults result }
-        ensures counted { OnErr result (self.new.faults ≡ min (self.old.faults + 1) (2 ^ 64 - 1)) }
+        ensures octets { Reads (R.remaining self.old.inner) (R.remaining self.new.inner)
+            result buf.new }
+        ensures cause { CountsFault self.old.faults self.new.faults result }
     {
         match self.inner.read(buf) {
             Ok(count) => Ok(count),
@@ -94,9 +94,9 @@ impl<W: Write> Sink for WriteSink<W> {
     fn write(&mut self, bytes: &[u8]) -> Result<usize, Failed>
         requires some { 0 < length bytes.now }
 
-        ensures octets { Writes (W.contents self.old.inner) (W.contents self.new.inner) result bytes.now }
-        ensures cause { HasCause self.old.faults self.new.faults result }
-        ensures counted { OnErr result (self.new.faults ≡ min (self.old.faults + 1) (2 ^ 64 - 1)) }
+        ensures octets { Writes (W.contents self.old.inner) (W.contents self.new.inner)
+            result bytes.now }
+        ensures cause { CountsFault self.old.faults self.new.faults result }
     {
         match self.inner.write(bytes) {
             Ok(count) if count > 0 => Ok(count),

@@ -3,7 +3,7 @@ ghost use Rattle.std.specs.Prelude.{◌≡◌, ◌≢◌, ◌+◌, ◌-◌, ◌<
 ghost use Rattle.std.specs.Io.KnownBytes.{Keeps, Consumes};
 ghost use Rattle.amr_io.specs.Fault.{HasCause};
 ghost use Rattle.amr_io.specs.Told.{EndsAt};
-ghost use Rattle.amr_io.specs.Inlet.{Fills, ComesExactly};
+ghost use Rattle.amr_io.specs.Inlet.{Fills, FillStep, ComesExactly};
 
 use crate::gate::{Filled, Gate};
 use crate::source::{Failed, Source};
@@ -60,7 +60,8 @@ fn read_behind<S: Source>(
 
     ensures front { take at room.new ≡ take at room.old }
     ensures count { IfOk result (λ n. n ≤ most) }
-    ensures octets { IfOk result (λ n. Consumes (S.left source.old) (S.left source.new) (slice_range room.new at (at + n))) }
+    ensures octets { IfOk result (λ n. Consumes (S.left source.old) (S.left source.new)
+        (slice_range room.new at (at + n))) }
     ensures end { IfOk result (λ n. EndsAt (S.left source.old) n) }
     ensures failed { OnErr result (Keeps (S.left source.old) (S.left source.new)) }
     ensures cause { HasCause (S.faults source.old) (S.faults source.new) result }
@@ -76,7 +77,8 @@ impl Inlet {
         requires size { 0 < size }
         requires limit { 0 < limit }
 
-        ensures fresh { IfOk result (λ s. s ≡ record { held = []; size = size; limit = limit; taken = 0; gate = Gate.Open }) }
+        ensures fresh { IfOk result (λ s. s
+            ≡ record { held = []; size = size; limit = limit; taken = 0; gate = Gate.Open }) }
     {
         let room = vec![in alloc; 0u8; size]?;
         Ok(Inlet {
@@ -100,14 +102,20 @@ impl Inlet {
         requires usable { self.old.gate ≢ Gate.Spent }
         requires room { length self.old.held < self.old.size }
 
-        ensures open { self.old.gate ≡ Gate.Open → Fills (S.left source.old) (S.left source.new) self.old self.new result }
-        ensures ended { self.old.gate ≡ Gate.End → (result ≡ Ok Filled.End) × (self.new ≡ self.old) × (source.new ≡ source.old) }
-        ensures over { self.old.gate ≡ Gate.OverLimit → (result ≡ Ok Filled.OverLimit) × (self.new ≡ self.old) × (source.new ≡ source.old) }
+        ensures open { self.old.gate ≡ Gate.Open
+            → Fills (S.left source.old) (S.left source.new) self.old self.new result }
+        ensures ended { self.old.gate ≡ Gate.End
+            → (result ≡ Ok Filled.End) × (self.new ≡ self.old) × (source.new ≡ source.old) }
+        ensures over { self.old.gate ≡ Gate.OverLimit
+            → (result ≡ Ok Filled.OverLimit) × (self.new ≡ self.old) × (source.new ≡ source.old) }
         ensures cause { HasCause (S.faults source.old) (S.faults source.new) result }
 
         // Where a source that tells its octets serves the read, the answer is determined.
-        ensures end_exactly { self.old.gate ≡ Gate.Open → ComesExactly (S.left source.old) result Filled.End (λ octets. octets ≡ []) }
-        ensures over_exactly { self.old.gate ≡ Gate.Open → ComesExactly (S.left source.old) result Filled.OverLimit (λ octets. (self.old.taken ≡ self.old.limit) × (octets ≢ [])) }
+        ensures end_exactly { self.old.gate ≡ Gate.Open
+            → ComesExactly (S.left source.old) result Filled.End (λ octets. octets ≡ []) }
+        ensures over_exactly { self.old.gate ≡ Gate.Open
+            → ComesExactly (S.left source.old) result Filled.OverLimit
+            (λ octets. (self.old.taken ≡ self.old.limit) × (octets ≢ [])) }
     {
         match self.gate {
             Gate::End => Ok(Filled::End),
@@ -127,8 +135,7 @@ impl Inlet {
         requires room { length self.old.held < self.old.size }
         requires below { self.old.taken < self.old.limit }
 
-        ensures fills { Fills (S.left source.old) (S.left source.new) self.old self.new result }
-        ensures cause { HasCause (S.faults source.old) (S.faults source.new) result }
+        ensures step { FillStep S.Source source.old source.new self.old self.new result }
     {
         move_to_front(&mut self.room, self.start, self.end);
         self.end -= self.start;
@@ -156,8 +163,7 @@ impl Inlet {
     fn look_past_limit<S: Source>(&mut self, source: &mut S) -> Result<Filled, Failed>
         requires at_limit { self.old.limit ≤ self.old.taken }
 
-        ensures fills { Fills (S.left source.old) (S.left source.new) self.old self.new result }
-        ensures cause { HasCause (S.faults source.old) (S.faults source.new) result }
+        ensures step { FillStep S.Source source.old source.new self.old self.new result }
     {
         let mut octet = [0u8; 1];
         match source.read(&mut octet) {

@@ -1,6 +1,6 @@
 // A sink over memory, some of whose writes fail.
 ghost use Rattle.std.specs.Prelude.{◌≡◌, ◌+◌, ◌-◌, ◌^◌, ◌<◌, ◌≤◌, ◌↔◌, ◌⊎◌, [], length, min, IfOk, IsErr, OnErr, Contains, Some, vec_len, vec_capacity};
-ghost use Rattle.amr_io.specs.Fault.{HasCause};
+ghost use Rattle.amr_io.specs.Fault.{CountsFault};
 ghost use Rattle.amr_io.specs.Told.{Writes};
 ghost use Rattle.amr_io.specs.Memory.{MemorySinkState};
 
@@ -49,7 +49,14 @@ impl MemorySink {
     ) -> Result<MemorySink, AllocError>
         requires cut { 0 < cut }
 
-        ensures fresh { IfOk result (λ s. s ≡ record { octets = []; room = room; cut = cut; failing = failing.now; calls = 0; faults = 0 }) }
+        ensures fresh { IfOk result (λ s. s ≡ record {
+          octets = [];
+          room = room;
+          cut = cut;
+          failing = failing.now;
+          calls = 0;
+          faults = 0;
+        }) }
     {
         let octets = Vec::with_capacity(alloc, room)?;
         let failing = Vec::from_slice(alloc, failing)?;
@@ -86,14 +93,16 @@ impl Sink for MemorySink {
         requires some { 0 < length bytes.now }
 
         ensures octets { Writes (Some self.old.octets) (Some self.new.octets) result bytes.now }
-        ensures count { IfOk result (λ n. n ≡ min (min (length bytes.now) self.old.cut) (self.old.room - length self.old.octets)) }
+        ensures count { IfOk result (λ n. n ≡ min (min (length bytes.now) self.old.cut)
+            (self.old.room - length self.old.octets)) }
 
-        ensures fails { IsErr result ↔ (Contains self.old.failing self.old.calls ⊎ (self.old.room ≤ length self.old.octets)) }
-        ensures cause { HasCause self.old.faults self.new.faults result }
-        ensures counted { OnErr result (self.new.faults ≡ min (self.old.faults + 1) (2 ^ 64 - 1)) }
+        ensures fails { IsErr result ↔ (Contains self.old.failing self.old.calls
+            ⊎ (self.old.room ≤ length self.old.octets)) }
+        ensures cause { CountsFault self.old.faults self.new.faults result }
 
         ensures calls { self.new.calls ≡ min (self.old.calls + 1) (2 ^ 128 - 1) }
-        ensures kept { (self.new.room ≡ self.old.room) × (self.new.cut ≡ self.old.cut) × (self.new.failing ≡ self.old.failing) }
+        ensures kept { (self.new.room ≡ self.old.room) × (self.new.cut ≡ self.old.cut)
+            × (self.new.failing ≡ self.old.failing) }
     {
         let call = self.calls;
         self.calls = call.saturating_add(1);

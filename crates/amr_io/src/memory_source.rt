@@ -1,6 +1,6 @@
 // A source over octets in memory, some of whose reads fail.
 ghost use Rattle.std.specs.Prelude.{◌≡◌, ◌+◌, ◌-◌, ◌^◌, ◌<◌, ◌≤◌, ◌↔◌, length, min, drop, IfOk, IsTrue, IsErr, OnErr, Contains, Some, vec_len};
-ghost use Rattle.amr_io.specs.Fault.{HasCause};
+ghost use Rattle.amr_io.specs.Fault.{CountsFault};
 ghost use Rattle.amr_io.specs.Told.{Reads};
 ghost use Rattle.amr_io.specs.Memory.{MemorySourceState};
 
@@ -53,7 +53,13 @@ impl MemorySource {
     ) -> Result<MemorySource, AllocError>
         requires cut { 0 < cut }
 
-        ensures fresh { IfOk result (λ s. s ≡ record { octets = octets.now; cut = cut; failing = failing.now; calls = 0; faults = 0 }) }
+        ensures fresh { IfOk result (λ s. s ≡ record {
+          octets = octets.now;
+          cut = cut;
+          failing = failing.now;
+          calls = 0;
+          faults = 0;
+        }) }
     {
         let octets = Vec::from_slice(alloc, octets)?;
         let failing = Vec::from_slice(alloc, failing)?;
@@ -79,11 +85,11 @@ impl Source for MemorySource {
         requires room { 0 < length buf.old }
 
         ensures octets { Reads (Some self.old.octets) (Some self.new.octets) result buf.new }
-        ensures count { IfOk result (λ n. n ≡ min (min (length self.old.octets) self.old.cut) (length buf.old)) }
+        ensures count { IfOk result
+            (λ n. n ≡ min (min (length self.old.octets) self.old.cut) (length buf.old)) }
 
         ensures fails { IsErr result ↔ Contains self.old.failing self.old.calls }
-        ensures cause { HasCause self.old.faults self.new.faults result }
-        ensures counted { OnErr result (self.new.faults ≡ min (self.old.faults + 1) (2 ^ 64 - 1)) }
+        ensures cause { CountsFault self.old.faults self.new.faults result }
 
         ensures calls { self.new.calls ≡ min (self.old.calls + 1) (2 ^ 128 - 1) }
         ensures kept { (self.new.cut ≡ self.old.cut) × (self.new.failing ≡ self.old.failing) }

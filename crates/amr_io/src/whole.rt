@@ -2,6 +2,7 @@
 ghost use Rattle.std.specs.Prelude.{◌≡◌, ◌<◌, [], length, Ok, OnOk, OnErr};
 ghost use Rattle.std.specs.Io.KnownBytes.{Appends};
 ghost use Rattle.amr_io.specs.Fault.{HasCause};
+ghost use Rattle.amr_io.specs.Steps.{SinkStep};
 ghost use Rattle.amr_io.specs.Told.{AppendsPart};
 
 use crate::sink::Sink;
@@ -35,10 +36,7 @@ fn write_rest<S: Sink>(sink: &mut S, bytes: &[u8]) -> Result<(), Failed>
 
     ensures whole { OnOk result (Appends (S.got sink.old) (S.got sink.new) bytes.now) }
     ensures part { OnErr result (AppendsPart (S.got sink.old) (S.got sink.new) bytes.now) }
-
-    ensures cause { HasCause (S.faults sink.old) (S.faults sink.new) result }
-    ensures beside { S.beside sink.new ≡ S.beside sink.old }
-    ensures same { S.same sink.old sink.new }
+    ensures step { SinkStep S.Sink sink.old sink.new result }
 {
     let mut done = 0;
     while done < bytes.len() {

@@ -1,7 +1,7 @@
 -- The octets of blocks, cell by cell.
-use Rattle.std.proofs.Common.{◌≡◌, List, [], ◌∷◌, ◌++◌, ap, ◌∙◌}
+use Rattle.std.proofs.Common.{◌≡◌, ℕ, ◌+◌, List, [], ◌∷◌, ◌++◌, take, drop, sym, ap, ◌∙◌}
 use Rattle.std.proofs.lemmas.Grind.{flat_map-append}
-use Rattle.std.proofs.lemmas.List.{append-nil, map-append}
+use Rattle.std.proofs.lemmas.List.{append-nil, map-append, take-append-drop}
 use Rattle.std.specs.Prelude.{◌≤◌}
 use Rattle.std.specs.List.{AllByRecursion}
 use Rattle.amr_frame.specs.Frames.{IsFrame}
@@ -16,6 +16,16 @@ cells_both xs ys = ap block_text (map-append frame_of xs ys) ∙ flat_map-append
 
 pub cells_more : (xs : List Cell) (x : Cell) → block_text (frames_of (xs ++ x ∷ [])) ≡ block_text (frames_of xs) ++ frame_text (frame_of x)
 cells_more xs x = cells_both xs (x ∷ []) ∙ ap (λ t. block_text (frames_of xs) ++ t) (append-nil (frame_text (frame_of x)))
+
+-- the text of the cells before one, and the text of that one
+pub cells_next : (cells : List Cell) (i : ℕ) (x : Cell) (text : List ℕ) → take (i + 1) cells ≡ take i cells ++ x ∷ []
+    → text ≡ frame_text (frame_of x) → block_text (frames_of (take i cells)) ++ text ≡ block_text (frames_of (take (i + 1) cells))
+cells_next cells i x text more is = ap (λ t. block_text (frames_of (take i cells)) ++ t) is ∙ sym (cells_more (take i cells) x) ∙ ap (λ l. block_text (frames_of l)) (sym more)
+
+-- the text of the cells up to one and of those behind it
+pub cells_split : (cells : List Cell) (i : ℕ) (text : List ℕ) → text ≡ block_text (frames_of (take i cells))
+    → text ++ block_text (frames_of (drop i cells)) ≡ block_text (frames_of cells)
+cells_split cells i text is = ap (λ t. t ++ block_text (frames_of (drop i cells))) is ∙ sym (cells_both (take i cells) (drop i cells)) ∙ ap (λ l. block_text (frames_of l)) (take-append-drop i cells)
 
 -- the types of frames fit four bits
 pub types_fit : (codec : Codec) (cells : List Cell) → AllByRecursion (IsFrame codec) (frames_of cells) → AllByRecursion (λ (cell : Cell). cell.ft ≤ 15) cells

@@ -6,9 +6,10 @@ use Rattle.std.proofs.KnownBytes.{Appends-nil, Appends-trans}
 use Rattle.std.proofs.lemmas.Grind.{flat_map-append}
 use Rattle.amr_frame.specs.Blocks.{GotAtMostPart, GotBlocks, GotPrefix}
 use Rattle.amr_frame.specs.Frames.{Frame}
-use Rattle.amr_store.proofs.Fronts.{front_of_more, then_front}
+use Rattle.amr_io.proofs.Fronts.{front_of_more, then_front}
 use Rattle.amr_store.specs.SinkLaws.{same_sink, through}
-use Rattle.amr_store.specs.Written.{AppendsFront, SameSink, WroteBlock, WrotePart}
+use Rattle.amr_io.specs.Told.{AppendsFront}
+use Rattle.amr_store.specs.Written.{SameSink, WroteBlock, WrotePart}
 use Rattle.amr_store.specs.declared.writer.StoreWriter.{StoreWriter}
 use Rattle.spec_store.specs.StorageFile.{block_text}
 

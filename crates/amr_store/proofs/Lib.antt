@@ -1,4 +1,3 @@
 pub mod Blocks
-pub mod Fronts
 pub mod Got
 pub mod Heads

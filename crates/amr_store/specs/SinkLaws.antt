@@ -1,4 +1,5 @@
--- That writing to the same sink is reflexive and transitive: laws that the writer names, which is why they stand here.
+-- That writing to the same sink is reflexive and transitive: laws that the writer names, which is
+-- why they stand here.
 use Rattle.std.proofs.Common.{refl, ◌∙◌, Option, List, ℕ}
 use Rattle.amr_store.specs.Written.{SameSink}
 use Rattle.amr_store.specs.declared.writer.StoreWriter.{StoreWriter}

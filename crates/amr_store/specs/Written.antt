@@ -1,42 +1,47 @@
 -- What a writer of storage files did to the sink that it writes to.
-use Rattle.std.specs.Prelude.{◌≡◌, ℕ, Bool, true, false, ◌&&◌, nat_le, List, ◌++◌, Option}
+use Rattle.std.specs.Prelude.{◌≡◌, ℕ, Bool, true, false, ◌&&◌, nat_le, List, Option, Result, Ok, Err}
 use Rattle.std.specs.Io.KnownBytes.{Appends}
+use Rattle.amr_io.specs.Told.{AppendsFront}
 use Rattle.amr_frame.specs.Frames.{Frame}
 use Rattle.amr_store.specs.declared.writer.StoreWriter.{StoreWriter}
 use Rattle.amr_store.specs.declared.writer.Stage.{Stage}
 use Rattle.amr_store.specs.declared.writer.Stage.TheVariants.{Fresh, Open, Spent}
 use Rattle.spec_store.specs.StorageFile.{block_text}
 
--- a front of the octets was added to those that the sink got
-abbrev pub AppendsFront : Option (List ℕ) → Option (List ℕ) → List ℕ → Type 0
-AppendsFront got got' octets = (front : List ℕ) × (rest : List ℕ) × (octets ≡ front ++ rest) × Appends got got' front
-
 abbrev is_open : Stage → Bool
 is_open Fresh = false
 is_open Open = true
 is_open Spent = false
 
+-- a call leaves a writer open where it is served, and spent where it fails
+abbrev pub stage_after : {A E : Type 0} → Result A E → Stage
+stage_after (Ok _) = Open
+stage_after (Err _) = Spent
+
 -- a writer takes blocks once it has begun, until a write fails; its channels are from 1 to 6
 abbrev pub takes_blocks : Stage → ℕ → Bool
 takes_blocks stage channels = is_open stage && nat_le 1 channels && nat_le channels 6
 
--- two writers write to the same sink, it to the same object, and what stands beside its octets is as before
+-- two writers write to the same sink, it to the same object, and what stands beside its octets is
+-- as before
 pub record SameSink {O : Type 0} (aside : O → Option (List (List ℕ × List ℕ)))
     (alike : O → O → Type 0) (v w : StoreWriter O) : Type 0 where
   pub reference : w.sink.ghost_name ≡ v.sink.ghost_name
   pub object : alike v.sink.now w.sink.now
   pub beside : aside w.sink.now ≡ aside v.sink.now
 
--- the sink got the octets of a block more
+-- the sink got the octets of a block more, and the writer takes the next
 pub record WroteBlock {O : Type 0} (got : O → Option (List ℕ))
     (aside : O → Option (List (List ℕ × List ℕ))) (alike : O → O → Type 0)
     (v : StoreWriter O) (block : List Frame) (w : StoreWriter O) : Type 0 where
   pub same : SameSink aside alike v w
   pub octets : Appends (got v.sink.now) (got w.sink.now) (block_text block)
+  pub stage : w.stage ≡ Open
 
--- the sink got a front of the octets of a block more
+-- the sink got a front of the octets of a block more, and the writer is spent
 pub record WrotePart {O : Type 0} (got : O → Option (List ℕ))
     (aside : O → Option (List (List ℕ × List ℕ))) (alike : O → O → Type 0)
     (v : StoreWriter O) (block : List Frame) (w : StoreWriter O) : Type 0 where
   pub same : SameSink aside alike v w
   pub octets : AppendsFront (got v.sink.now) (got w.sink.now) (block_text block)
+  pub stage : w.stage ≡ Spent

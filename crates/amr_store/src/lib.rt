@@ -6,3 +6,6 @@ mod writer;
 
 pub use spec_store::StoreRefusal;
 pub use writer::{Stage, StoreWriter, write_cells};
+
+#[cfg(test)]
+mod tests;

@@ -2,7 +2,9 @@ ghost use Rattle.std.specs.Prelude.{◌≡◌, ◌≤◌, OnErr, OnOk};
 ghost use Rattle.std.specs.List.{AllByRecursion};
 ghost use Rattle.std.specs.Io.KnownBytes.{Appends};
 ghost use Rattle.amr_io.specs.Fault.{HasCause};
-ghost use Rattle.amr_store.specs.Written.{AppendsFront, takes_blocks};
+ghost use Rattle.amr_io.specs.Steps.{SinkStep};
+ghost use Rattle.amr_io.specs.Told.{AppendsFront};
+ghost use Rattle.amr_store.specs.Written.{stage_after, takes_blocks};
 ghost use Rattle.spec_store.specs.StorageFile.{block_text, header, multi};
 ghost use Rattle.amr_frame.specs.Blocks.{frames_of};
 
@@ -73,12 +75,14 @@ impl<'a, O: Sink> StoreWriter<'a, O> {
     pub fn begin(&mut self) -> Result<(), Failed>
         requires fresh { self.old.stage ≡ Stage.Fresh }
 
-        ensures whole { OnOk result (Appends (O.got self.old.sink.now) (O.got self.new.sink.now) (header self.old.codec self.old.channels)) }
-        ensures part { OnErr result (AppendsFront (O.got self.old.sink.now) (O.got self.new.sink.now) (header self.old.codec self.old.channels)) }
-        ensures open { OnOk result (self.new.stage ≡ Stage.Open) }
-        ensures spent { OnErr result (self.new.stage ≡ Stage.Spent) }
+        ensures whole { OnOk result (Appends (O.got self.old.sink.now) (O.got self.new.sink.now)
+            (header self.old.codec self.old.channels)) }
+        ensures part { OnErr result (AppendsFront (O.got self.old.sink.now)
+            (O.got self.new.sink.now) (header self.old.codec self.old.channels)) }
+        ensures stage { self.new.stage ≡ stage_after result }
 
-        ensures format { (self.new.codec ≡ self.old.codec) × (self.new.channels ≡ self.old.channels) }
+        ensures format { (self.new.codec ≡ self.old.codec)
+            × (self.new.channels ≡ self.old.channels) }
         ensures cause { HasCause (O.faults self.old.sink.now) (O.faults self.new.sink.now) result }
         ensures beside { O.beside self.new.sink.now ≡ O.beside self.old.sink.now }
         ensures same_reference { self.new.sink.ghost_name ≡ self.old.sink.ghost_name }
@@ -93,12 +97,11 @@ impl<'a, O: Sink> StoreWriter<'a, O> {
 
 /// Writes the header of a file of this codec and number of channels (RFC 4867, 5.1 and 5.2).
 fn write_header<O: Sink>(codec: Codec, channels: u8, sink: &mut O) -> Result<(), Failed>
-    ensures whole { OnOk result (Appends (O.got sink.old) (O.got sink.new) (header codec channels)) }
-    ensures part { OnErr result (AppendsFront (O.got sink.old) (O.got sink.new) (header codec channels)) }
-
-    ensures cause { HasCause (O.faults sink.old) (O.faults sink.new) result }
-    ensures beside { O.beside sink.new ≡ O.beside sink.old }
-    ensures same { O.same sink.old sink.new }
+    ensures whole { OnOk result
+        (Appends (O.got sink.old) (O.got sink.new) (header codec channels)) }
+    ensures part { OnErr result
+        (AppendsFront (O.got sink.old) (O.got sink.new) (header codec channels)) }
+    ensures step { SinkStep O.Sink sink.old sink.new result }
 {
     if channels == 1 {
         return write_whole(sink, magic(codec));
@@ -133,12 +136,11 @@ fn multichannel_magic(codec: Codec) -> &'static [u8]
 pub fn write_cells<O: Sink>(cells: &[Cell], sink: &mut O) -> Result<(), Failed>
     requires { AllByRecursion (λ (cell : Cell). cell.ft ≤ 15) cells.now }
 
-    ensures whole { OnOk result (Appends (O.got sink.old) (O.got sink.new) (block_text (frames_of cells.now))) }
-    ensures part { OnErr result (AppendsFront (O.got sink.old) (O.got sink.new) (block_text (frames_of cells.now))) }
-
-    ensures cause { HasCause (O.faults sink.old) (O.faults sink.new) result }
-    ensures beside { O.beside sink.new ≡ O.beside sink.old }
-    ensures same { O.same sink.old sink.new }
+    ensures whole { OnOk result
+        (Appends (O.got sink.old) (O.got sink.new) (block_text (frames_of cells.now))) }
+    ensures part { OnErr result
+        (AppendsFront (O.got sink.old) (O.got sink.new) (block_text (frames_of cells.now))) }
+    ensures step { SinkStep O.Sink sink.old sink.new result }
 {
     let mut octets = [0u8; 61];
     for cell in cells {

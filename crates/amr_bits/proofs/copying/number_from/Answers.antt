@@ -1,4 +1,4 @@
-use Rattle.std.proofs.Common.{◌≡◌, ℕ, ◌+◌, ◌-◌, ◌*◌, ◌/◌, ◌^◌, ◌<◌, get_or, sym, ap, ◌∙◌, arith}
+use Rattle.std.proofs.Common.{◌≡◌, ℕ, ◌+◌, ◌-◌, ◌*◌, ◌/◌, ◌^◌, ◌<◌, get_or, sym, ap, ◌∙◌, arith, rules}
 use Rattle.amr_bits.specs.Bits.{number_at}
 use Rattle.amr_bits.proofs.Places.{number_at-lt, number_at-more}
 use Rattle.amr_bits.proofs.Copied.{room_above, cut_out}
@@ -23,10 +23,10 @@ loop-at-preserved c =
     let size : 8 * (at + 1) ≡ 8 * at + 8 = omega arith in
     ap (λ (x : ℕ). 256 * x + get_or octets at 0) c.loop-at.invariant ∙ sym (number_at-more octets 0 (8 * at) at (omega arith) (omega (arith, c.type_inv.octets at))) ∙ ap (number_at octets 0) (sym size)
 
-pub returns-clause-bits : goal.returns-clause-bits
-returns-clause-bits c =
+pub returns : goal.returns
+returns c =
     let count = c.octets_needed-count.result in
     let is : count ≡ (c.args.start + c.args.width + 7) / 8 = c.octets_needed-count.ensures in
     let all : c.loop-at.at ≡ count = omega arith in
     let value : c.loop-at.value ≡ number_at c.args.octets.now 0 (8 * count) = c.loop-at.invariant ∙ ap (λ (n : ℕ). number_at c.args.octets.now 0 (8 * n)) all in
-    cut_out c.args.octets.now c.args.start c.args.width count (8 * count - c.args.start - c.args.width) c.loop-at.value c.requires.width (omega arith) value
+    record { spelt = record { bits = cut_out c.args.octets.now c.args.start c.args.width count (8 * count - c.args.start - c.args.width) c.loop-at.value c.requires.width (omega arith) value; below = search rules } }

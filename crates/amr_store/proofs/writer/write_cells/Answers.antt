@@ -2,11 +2,11 @@ use Rattle.std.proofs.Common.{◌≡◌, ◌+◌, ◌<◌, [], ◌∷◌, ◌++�
 use Rattle.std.specs.Io.KnownBytes.{Appends}
 use Rattle.std.proofs.KnownBytes.{Appends-nil, Appends-trans}
 use Rattle.std.proofs.lemmas.Grind.{take_at_read}
-use Rattle.std.proofs.lemmas.List.{take-append-drop}
 use Rattle.amr_frame.specs.Blocks.{frames_of}
-use Rattle.amr_store.specs.Written.{AppendsFront}
-use Rattle.amr_store.proofs.Blocks.{cells_both, cells_more}
-use Rattle.amr_store.proofs.Fronts.{front_of_more, on_err, part_is_front, then_front}
+use Rattle.amr_io.specs.Told.{AppendsFront}
+use Rattle.amr_store.proofs.Blocks.{cells_next, cells_split}
+use Rattle.amr_io.proofs.Fronts.{front_of_more, part_is_front, then_front}
+use Rattle.amr_io.proofs.Results.{on_err}
 use Rattle.amr_store.proofs.writer.write_cells.Goals as goal
 use Rattle.spec_store.specs.StorageFile.{block_text}
 
@@ -23,7 +23,7 @@ loop-cell-preserved g c =
     let within : i < length cells = omega arith in
     let more : take (i + 1) cells ≡ take i cells ++ x ∷ [] = (take_at_read cells i x within).1 ∙ ap (λ y. take i cells ++ y ∷ []) (sym c.cell-item.is) in
     let text : block_text (frames_of (take i cells)) ++ take c.write_frame-count.result c.write_frame-count.new.out ≡ block_text (frames_of (take (i + 1) cells)) =
-    ap (λ t. block_text (frames_of (take i cells)) ++ t) c.write_frame-count.ensures.octets ∙ sym (cells_more (take i cells) x) ∙ ap (λ l. block_text (frames_of l)) (sym more) in
+    cells_next cells i x _ more c.write_frame-count.ensures.octets in
     record {
       put = subst (Appends (g.O.Sink.got c.args.sink.now) (g.O.Sink.got c.write_whole.new.sink)) text (Appends-trans _ _ _ _ _ before.put clauses.whole);
       faults = clauses.cause ∙ before.faults;
@@ -41,9 +41,7 @@ returns-in_err-write_whole-clause-part g c =
     let within : i < length cells = omega arith in
     let more : take (i + 1) cells ≡ take i cells ++ x ∷ [] = (take_at_read cells i x within).1 ∙ ap (λ y. take i cells ++ y ∷ []) (sym c.cell-item.is) in
     let text : block_text (frames_of (take i cells)) ++ take c.write_frame-count.result c.write_frame-count.new.out ≡ block_text (frames_of (take (i + 1) cells)) =
-    ap (λ t. block_text (frames_of (take i cells)) ++ t) c.write_frame-count.ensures.octets ∙ sym (cells_more (take i cells) x) ∙ ap (λ l. block_text (frames_of l)) (sym more) in
-    let whole : (block_text (frames_of (take i cells)) ++ take c.write_frame-count.result c.write_frame-count.new.out) ++ block_text (frames_of (drop (i + 1) cells)) ≡ block_text (frames_of cells) =
-    ap (λ t. t ++ block_text (frames_of (drop (i + 1) cells))) text ∙ sym (cells_both (take (i + 1) cells) (drop (i + 1) cells)) ∙ ap (λ l. block_text (frames_of l)) (take-append-drop (i + 1) cells) in
+    cells_next cells i x _ more c.write_frame-count.ensures.octets in
     on_err c.from_residual.result
-    (subst (AppendsFront (g.O.Sink.got c.args.sink.now) (g.O.Sink.got c.write_whole.new.sink)) whole
+    (subst (AppendsFront (g.O.Sink.got c.args.sink.now) (g.O.Sink.got c.write_whole.new.sink)) (cells_split cells (i + 1) _ text)
     (front_of_more _ _ _ (block_text (frames_of (drop (i + 1) cells))) (then_front _ (g.O.Sink.got c.loop-cell.sink) _ _ _ before.put (part_is_front _ _ _ clauses.part))))

@@ -1,7 +1,8 @@
 use Rattle.std.proofs.Common.{◌∷◌, ◌++◌, [], sym, subst, ap, ◌∙◌}
 use Rattle.std.proofs.lemmas.Result.{on_err_weaker}
-use Rattle.amr_store.specs.Written.{AppendsFront}
-use Rattle.amr_store.proofs.Fronts.{front_of_more, on_err, part_is_front, then_front}
+use Rattle.amr_io.specs.Told.{AppendsFront}
+use Rattle.amr_io.proofs.Fronts.{front_of_more, part_is_front, then_front}
+use Rattle.amr_io.proofs.Results.{on_err}
 use Rattle.amr_store.proofs.Heads.{header_of_many, header_of_one}
 use Rattle.amr_store.proofs.writer.write_header.Goals as goal
 

@@ -18,7 +18,7 @@ returns-then-rest-gt0 c =
     let size : length c.copy_octets.new.out ≡ m = ap length front ∙ length-map-range_with_len (λ k. number_at octets (8 * k + start) 8) 0 m in
     let there : start + 8 * m ≡ start % 8 + 8 * (start / 8 + m) = omega arith in
     let v : c.few_from-last.result ≡ number_at octets (start + 8 * m) (len % 8) =
-    c.few_from-last.ensures.bits ∙ ap (λ l. number_at l (start % 8) (len % 8)) (take_rest _ m ∙ ap (drop m) (take_rest octets (start / 8)) ∙ drop-drop m (start / 8) octets)
+    c.few_from-last.ensures.spelt.bits ∙ ap (λ l. number_at l (start % 8) (len % 8)) (take_rest _ m ∙ ap (drop m) (take_rest octets (start / 8)) ∙ drop-drop m (start / 8) octets)
     ∙ ap number (run-drop octets (start / 8 + m) (start % 8) (start + 8 * m) (len % 8) there) in
     last_set c.copy_octets.new.out c.args.out.now m (c.few_from-last.result * 2 ^ (8 - len % 8) % 256) size (omega arith) ∙ ap (λ xs. xs ++ (c.few_from-last.result * 2 ^ (8 - len % 8) % 256 ∷ [])) front
     ∙ sym (filled_odd octets start len m (len % 8) c.few_from-last.result (omega arith) c.if-rest-gt0.true (omega arith) v)

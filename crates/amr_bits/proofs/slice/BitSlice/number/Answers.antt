@@ -12,5 +12,5 @@ returns-clause-bits c =
     let place = start % 8 + from % 8 in
     let j = start / 8 + from / 8 + place / 8 in
     let there : start + from ≡ place % 8 + 8 * j = omega arith in
-    c.number_from.ensures.bits ∙ ap (λ l. number_at l (place % 8) c.args.width) (take_rest octets j)
+    c.number_from.ensures.spelt.bits ∙ ap (λ l. number_at l (place % 8) c.args.width) (take_rest octets j)
     ∙ ap number (run-drop octets j (place % 8) (start + from) c.args.width there ∙ sym (run-part octets start from c.args.width c.args.self.now.len c.requires.fits))

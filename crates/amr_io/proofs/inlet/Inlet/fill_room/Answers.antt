@@ -5,8 +5,8 @@ use Rattle.std.proofs.lemmas.List.{with_items_is}
 use Rattle.amr_io.proofs.Pieces.{held_and_read, length_of_part}
 use Rattle.amr_io.proofs.inlet.Inlet.fill_room.Goals as goal
 
-pub returns-in-Ok-clause-fills : goal.returns-in-Ok-clause-fills
-returns-in-Ok-clause-fills g c =
+pub returns-in-Ok : goal.returns-in-Ok
+returns-in-Ok g c =
     let inside = c.self.inside in
     let at = inside.end - inside.start in
     let n = c.in-Ok.count in
@@ -22,12 +22,17 @@ returns-in-Ok-clause-fills g c =
     let read_in : (with_items (with_items inside.room c.move_to_front.new.room) room).items ≡ room = with_items_is (with_items inside.room c.move_to_front.new.room) room (omega (arith, c.read_behind.auto.room, c.deref_mut-2.ensures.len)) in
     let front : take at room ≡ take at c.move_to_front.new.room = c.in-Ok.ensures.front ∙ ap (take at) lent in
     let moved : take at c.move_to_front.new.room ≡ slice_range inside.room.items inside.start inside.end = c.move_to_front.ensures.moved ∙ ap (λ (l : List ℕ). slice_range l inside.start inside.end) opened in
-    let more = held_and_read room c.move_to_front.new.room _ at n front moved in (
-      slice_range room at (at + n),
-      length_of_part room at n fits,
-      omega (arith, c.in-Ok.count-test),
-      omega (arith, fits_most, ap (λ v. v.taken) c.self.view_is, ap (λ v. v.limit) c.self.view_is),
-      rw (held, size) (omega (arith, length-take {A = ℕ}, length-drop {A = ℕ}, c.self.invariant, fits_most)),
-      c.in-Ok.ensures.octets,
-      rw (← c.self.view_is) (ap (λ (h : List ℕ). record { held = h; size = vec_len inside.room; limit = inside.limit; taken = inside.taken + n; gate = inside.gate }) (ap (λ (l : List ℕ). slice_range l 0 (at + n)) read_in ∙ more)),
-    )
+    let more = held_and_read room c.move_to_front.new.room _ at n front moved in record {
+      step = record {
+        fills = (
+          slice_range room at (at + n),
+          length_of_part room at n fits,
+          omega (arith, c.in-Ok.count-test),
+          omega (arith, fits_most, ap (λ v. v.taken) c.self.view_is, ap (λ v. v.limit) c.self.view_is),
+          rw (held, size) (omega (arith, length-take {A = ℕ}, length-drop {A = ℕ}, c.self.invariant, fits_most)),
+          c.in-Ok.ensures.octets,
+          rw (← c.self.view_is) (ap (λ (h : List ℕ). record { held = h; size = vec_len inside.room; limit = inside.limit; taken = inside.taken + n; gate = inside.gate }) (ap (λ (l : List ℕ). slice_range l 0 (at + n)) read_in ∙ more)),
+        );
+        cause = c.in-Ok.ensures.cause;
+      };
+    }
