@@ -2,16 +2,16 @@
 use Rattle.std.proofs.Common.{◌≡◌, ℕ, ◌<◌, List, Option, Some, refl, sym, subst, ap, ◌∙◌, arith, inl, inr, ◌⊎◌}
 use Rattle.std.specs.Io.KnownBytes.{Appends}
 use Rattle.amr_cli.proofs.Texts.{done_text, front_of, refused_text, whole_of}
-use Rattle.amr_cli.proofs.Verdicts.{ButNotes, Done, Memory, Outcome, Read, Refused, Write, outcome, refused_calm, refused_finished, refused_not}
+use Rattle.amr_cli.proofs.Verdicts.{ButNotes, Done, IsRefused, Memory, Outcome, Read, Refused, Write, finished_calm, outcome}
 use Rattle.amr_cli.specs.Jobs.{meaning_of}
 use Rattle.amr_cli.specs.Noted.{lines_of, notes_at}
 use Rattle.amr_cli.specs.Runs.{DoneButNotes, Notes, NotesPart, PutsOut, Ran, Run, StopsReading, StopsWriting, engine_of}
 use Rattle.amr_cli.specs.Statuses.{EndsAs}
+use Rattle.amr_io.specs.Told.{AppendsFront}
 use Rattle.amr_cli.specs.declared.job.Job.{Job}
 use Rattle.amr_cli.specs.declared.status.Status.TheVariants as status
 use Rattle.run_report.specs.Ends.{IsFinished}
 use Rattle.run_report.specs.Lines.{notes_of}
-use Rattle.run_report.specs.Written.{AppendsFront}
 use Rattle.run_report.specs.declared.end.RunEnd.{RunEnd}
 use Rattle.run_report.specs.declared.end.RunEnd.TheVariants as end
 use Rattle.spec_run.specs.Flows.{Calm, Failed, FaultsOf}
@@ -44,7 +44,7 @@ module _ (m : Meaning) (r : Run) (ran : Ran m r) where
       not_usage (Read is s) u = cc
       not_usage (Write is s) u = cc
       not_usage (Memory is s) u = cc
-      not_usage (Refused refuses) u = refused_not _ _ status.Usage refuses tt u
+      not_usage (Refused refuses) u = subst IsRefused u refuses.refused
 
   served_out : (all : List ℕ) → Served m all (engine_of r ran.report)
       → (r.status ≡ status.OutOfMemory) ⊎ (Appends r.output.told r.output.told' (m.out all) × EndsAs (m.end all) r.notes r.status)
@@ -57,7 +57,7 @@ module _ (m : Meaning) (r : Run) (ran : Ran m r) where
   puts_by (Read is s) all told ni nw = absurd (ni (faults_at end.ReadFault is).0)
   puts_by (Write is s) all told ni nw = absurd (nw (faults_at end.WriteFault is).1)
   puts_by (Memory is s) all told ni nw = inl s
-  puts_by (Refused refuses) all told ni nw = served_out all (ran.worked.served (refused_finished _ _ refuses) all told)
+  puts_by (Refused refuses) all told ni nw = served_out all (ran.worked.served (refuses.finished) all told)
 
   pub puts_out : PutsOut m r
   puts_out = record { put = puts_by what }
@@ -68,7 +68,7 @@ module _ (m : Meaning) (r : Run) (ran : Ran m r) where
   done_end (Read is s) d = absurd cc
   done_end (Write is s) d = absurd cc
   done_end (Memory is s) d = absurd cc
-  done_end (Refused refuses) d = absurd (refused_not _ _ status.Done refuses tt d)
+  done_end (Refused refuses) d = absurd (subst IsRefused d refuses.refused)
 
   pub leaves_input : Leaves m r.input (r.status ≡ status.Done)
   leaves_input = record {
@@ -83,7 +83,7 @@ module _ (m : Meaning) (r : Run) (ran : Ran m r) where
   stops_reading_by (Read is s) d = record { failed = (faults_at end.ReadFault is).0; broke = ran.worked.read_fault is }
   stops_reading_by (Write is s) d = absurd cc
   stops_reading_by (Memory is s) d = absurd cc
-  stops_reading_by (Refused refuses) d = absurd (refused_not _ _ status.ReadFault refuses tt d)
+  stops_reading_by (Refused refuses) d = absurd (subst IsRefused d refuses.refused)
 
   pub stops_reading : r.status ≡ status.ReadFault → StopsReading m r
   stops_reading = stops_reading_by what
@@ -94,7 +94,7 @@ module _ (m : Meaning) (r : Run) (ran : Ran m r) where
   always_read (Read is s) less = s
   always_read (Write is s) less = let f = (faults_at end.WriteFault is).0 in absurd (omega (arith, f, less))
   always_read (Memory is s) less = let f = (faults_at end.OutOfMemory is).0 in absurd (omega (arith, f, less))
-  always_read (Refused refuses) less = let f = (refused_calm _ _ r.input r.output refuses ran.worked.faults).0 in absurd (omega (arith, f, less))
+  always_read (Refused refuses) less = let f = (finished_calm _ r.input r.output refuses.finished ran.worked.faults).0 in absurd (omega (arith, f, less))
 
   pub read_fault_always : r.input.faults < r.input.faults' → r.status ≡ status.ReadFault
   read_fault_always = always_read what
@@ -116,7 +116,7 @@ module _ (m : Meaning) (r : Run) (ran : Ran m r) where
   stops_writing_by (Read is s) d = absurd cc
   stops_writing_by (Write is s) d = inl ((faults_at end.WriteFault is).1, ran.worked.write_fault is)
   stops_writing_by (Memory is s) d = absurd cc
-  stops_writing_by (Refused refuses) d = absurd (refused_not _ _ status.WriteFault refuses tt d)
+  stops_writing_by (Refused refuses) d = absurd (subst IsRefused d refuses.refused)
 
   pub stops_writing : r.status ≡ status.WriteFault → StopsWriting m r
   stops_writing = stops_writing_by what
@@ -127,7 +127,7 @@ module _ (m : Meaning) (r : Run) (ran : Ran m r) where
   always_write (Read is s) less = let f = (faults_at end.ReadFault is).1 in absurd (omega (arith, f, less))
   always_write (Write is s) less = s
   always_write (Memory is s) less = let f = (faults_at end.OutOfMemory is).1 in absurd (omega (arith, f, less))
-  always_write (Refused refuses) less = let f = (refused_calm _ _ r.input r.output refuses ran.worked.faults).1 in absurd (omega (arith, f, less))
+  always_write (Refused refuses) less = let f = (finished_calm _ r.input r.output refuses.finished ran.worked.faults).1 in absurd (omega (arith, f, less))
 
   pub write_fault_always : r.output.faults < r.output.faults' → r.status ≡ status.WriteFault
   write_fault_always = always_write what
@@ -139,7 +139,7 @@ module _ (m : Meaning) (r : Run) (ran : Ran m r) where
   never_done (Read is s) less d = cc
   never_done (Write is s) less d = cc
   never_done (Memory is s) less d = cc
-  never_done (Refused refuses) less d = refused_not _ _ status.Done refuses tt d
+  never_done (Refused refuses) less d = subst IsRefused d refuses.refused
 
   pub notes_fault : r.notes.faults < r.notes.faults' → r.status ≡ status.Done → ⊥
   notes_fault = never_done what
@@ -156,7 +156,7 @@ module _ (m : Meaning) (r : Run) (ran : Ran m r) where
   text_by (Write is s) all told = inl (ap (λ x. notes_of m.lines (record ran.report { end = x })) is ∙ ap (notes_at m all) (sym s))
   text_by (Memory is s) all told = inl (ap (λ x. notes_of m.lines (record ran.report { end = x })) is ∙ ap (notes_at m all) (sym s))
   text_by (Refused refuses) all told =
-      let done = ran.worked.served (refused_finished _ _ refuses) all told in
+      let done = ran.worked.served (refuses.finished) all told in
       inl (refused_text m all _ _ _ refuses done.end done.counts)
 
   whole_by : (all : List ℕ) → (Failed r.notes → ⊥)

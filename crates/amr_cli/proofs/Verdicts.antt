@@ -8,10 +8,17 @@ use Rattle.run_report.specs.declared.end.RunEnd.{RunEnd}
 use Rattle.run_report.specs.declared.end.RunEnd.TheVariants as end
 use Rattle.spec_run.specs.Flows.{Calm, Failed, FaultsOf, Flow}
 
--- the input was worked off, but isn't what it should be, and a status of its own tells it
-pub data Refuses : RunEnd → Status → Type 0 where
-  Input : (have : ℕ) → Refuses (end.LogCut have) status.InputRefused
-  Limit : Refuses end.LimitReached status.LimitReached
+-- a status that tells an input that was worked off and isn't what it should be
+abbrev pub IsRefused : Status → Type 0
+IsRefused status.InputRefused = Unit {0}
+IsRefused status.LimitReached = Unit {0}
+IsRefused status.NoAnswer = Unit {0}
+IsRefused _ = ⊥
+
+-- such a run, and the status that tells it
+pub record Refuses (e : RunEnd) (s : Status) : Type 0 where
+  pub finished : IsFinished e
+  pub refused : IsRefused s
 
 -- what came of a run
 pub data Outcome (e : RunEnd) (notes : Flow) (s : Status) : Type 0 where
@@ -27,6 +34,9 @@ whatever : (e : RunEnd) (notes : Flow) (s t : Status) → status_for e ≡ t →
 whatever e notes s t is same (inl ended) = ended.1 ∙ is
 whatever e notes s t is same (inr ended) = ended.1 ∙ ap but_notes is ∙ same
 
+refused : (e : RunEnd) (notes : Flow) (s t : Status) → IsFinished e → IsRefused t → s ≡ t → Outcome e notes s
+refused e notes s t finished tells is = Refused (record { finished = finished; refused = subst IsRefused (sym is) tells })
+
 pub outcome : (e : RunEnd) (notes : Flow) (s : Status) → EndsAs e notes s → Outcome e notes s
 outcome end.Done notes s (inl ended) = Done refl ended.0 ended.1
 outcome end.Done notes s (inr ended) = ButNotes refl ended.0 ended.1
@@ -34,31 +44,19 @@ outcome end.ReadFault notes s ended = Read refl (whatever end.ReadFault notes s 
 outcome end.WriteFault notes s ended = Write refl (whatever end.WriteFault notes s status.WriteFault refl refl ended)
 outcome end.OutOfMemory notes s ended = Memory refl (whatever end.OutOfMemory notes s status.OutOfMemory refl refl ended)
 outcome (end.LogCut have) notes s ended =
-    let is = whatever (end.LogCut have) notes s status.InputRefused refl refl ended in
-    Refused (subst (Refuses (end.LogCut have)) (sym is) (Input have))
+    refused (end.LogCut have) notes s status.InputRefused tt tt (whatever (end.LogCut have) notes s status.InputRefused refl refl ended)
+outcome (end.File why) notes s ended =
+    refused (end.File why) notes s status.InputRefused tt tt (whatever (end.File why) notes s status.InputRefused refl refl ended)
+outcome (end.Sdp why) notes s ended =
+    refused (end.Sdp why) notes s status.InputRefused tt tt (whatever (end.Sdp why) notes s status.InputRefused refl refl ended)
 outcome end.LimitReached notes s ended =
-    let is = whatever end.LimitReached notes s status.LimitReached refl refl ended in
-    Refused (subst (Refuses end.LimitReached) (sym is) Limit)
+    refused end.LimitReached notes s status.LimitReached tt tt (whatever end.LimitReached notes s status.LimitReached refl refl ended)
+outcome end.NoAnswer notes s ended =
+    refused end.NoAnswer notes s status.NoAnswer tt tt (whatever end.NoAnswer notes s status.NoAnswer refl refl ended)
 
--- an input that was refused was worked off without a fault
-pub refused_finished : (e : RunEnd) (s : Status) → Refuses e s → IsFinished e
-refused_finished _ _ (Input have) = tt
-refused_finished _ _ Limit = tt
-
-pub refused_calm : (e : RunEnd) (s : Status) (i o : Flow) → Refuses e s → FaultsOf e i o → Calm i × Calm o
-refused_calm _ _ i o (Input have) f = f
-refused_calm _ _ i o Limit f = f
-
--- a status that doesn't tell a refused input
-abbrev pub Plain : Status → Type 0
-Plain status.InputRefused = ⊥
-Plain status.LimitReached = ⊥
-Plain status.Done = Unit {0}
-Plain status.Usage = Unit {0}
-Plain status.ReadFault = Unit {0}
-Plain status.WriteFault = Unit {0}
-Plain status.OutOfMemory = Unit {0}
-
-pub refused_not : (e : RunEnd) (s t : Status) → Refuses e s → Plain t → s ≡ t → ⊥
-refused_not _ _ t (Input have) plain is = subst Plain (sym is) plain
-refused_not _ _ t Limit plain is = subst Plain (sym is) plain
+-- a run that was worked off without a fault
+pub finished_calm : (e : RunEnd) (i o : Flow) → IsFinished e → FaultsOf e i o → Calm i × Calm o
+finished_calm end.ReadFault i o finished f = absurd finished
+finished_calm end.WriteFault i o finished f = absurd finished
+finished_calm end.OutOfMemory i o finished f = absurd finished
+finished_calm _ i o finished f = f

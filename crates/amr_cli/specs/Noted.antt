@@ -1,10 +1,10 @@
 -- The notes of a run: ours.
 use Rattle.std.specs.Prelude.{◌⊎◌, ℕ, List, ◌++◌}
 use Rattle.std.specs.Io.KnownBytes.{Appends}
+use Rattle.amr_io.specs.Told.{AppendsFront}
 use Rattle.amr_cli.specs.declared.status.Status.{Status}
 use Rattle.amr_cli.specs.declared.status.Status.TheVariants as status
 use Rattle.run_report.specs.Lines.{count_lines, end_line, usage_line}
-use Rattle.run_report.specs.Written.{AppendsFront}
 use Rattle.run_report.specs.declared.end.RunEnd.TheVariants as end
 use Rattle.spec_run.specs.Flows.{Calm, Failed, Flow}
 use Rattle.spec_run.specs.Meanings.{Meaning}
@@ -23,7 +23,8 @@ lines_of m input = count_lines m.lines (m.counts input)
 abbrev pub notes_at : Meaning → List ℕ → Status → List ℕ
 notes_at m input status.Done = lines_of m input
 notes_at m input status.InputRefused = lines_of m input ++ end_line (m.end input)
-notes_at m input status.LimitReached = lines_of m input ++ end_line end.LimitReached
+notes_at m input status.LimitReached = lines_of m input ++ end_line (m.end input)
+notes_at m input status.NoAnswer = lines_of m input ++ end_line (m.end input)
 notes_at m input status.ReadFault = end_line end.ReadFault
 notes_at m input status.WriteFault = end_line end.WriteFault
 notes_at m input status.OutOfMemory = end_line end.OutOfMemory

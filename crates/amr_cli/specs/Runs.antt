@@ -5,10 +5,10 @@ use Rattle.amr_cli.specs.Noted.{Noted, lines_of, notes_at}
 use Rattle.amr_cli.specs.Statuses.{EndsAs}
 use Rattle.amr_cli.specs.declared.status.Status.{Status}
 use Rattle.amr_cli.specs.declared.status.Status.TheVariants as status
+use Rattle.amr_io.specs.Told.{AppendsFront}
 use Rattle.amr_io.specs.declared.sink.Sink as sink
 use Rattle.amr_io.specs.declared.source.Source as source
 use Rattle.run_report.specs.Lines.{notes_of}
-use Rattle.run_report.specs.Written.{AppendsFront}
 use Rattle.run_report.specs.declared.end.RunEnd.TheVariants as end
 use Rattle.run_report.specs.declared.report.RunReport.{RunReport}
 use Rattle.spec_run.specs.Flows.{Calm, Failed, Flow, read_from, written_to}
@@ -29,6 +29,11 @@ run_of i o n input input' output output' notes notes' status = record {
   notes = written_to n notes notes';
   status = status;
 }
+
+-- a sink still writes to the same object, and what stands beside its octets is as it was
+pub record SameSink {S : Type 0} (k : sink.Ghosts S) (old new : S) : Type 0 where
+  pub same : k.same old new
+  pub beside : k.beside new ≡ k.beside old
 
 -- what its engine did
 abbrev pub engine_of : Run → RunReport → Work

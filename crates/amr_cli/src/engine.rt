@@ -1,6 +1,7 @@
 // The engine of each command, and the lines that it notes.
 ghost use Rattle.std.specs.Prelude.{◌≡◌, false};
 ghost use Rattle.amr_cli.specs.Jobs.{IsServed, meaning_of};
+ghost use Rattle.amr_cli.specs.Runs.{SameSink};
 ghost use Rattle.spec_run.specs.Meanings.{Works, work_of};
 
 use crate::job::Job;
@@ -22,8 +23,7 @@ pub fn run_engine<I: Source, O: Sink>(
         (work_of I.Source O.Sink input.old input.new output.old output.new result) }
     ensures memory { result.end ≡ RunEnd.OutOfMemory → (output.new ≡ output.old)
         × ((meaning_of job.now).reads_first ≡ false → input.new ≡ input.old) }
-    ensures beside { O.beside output.new ≡ O.beside output.old }
-    ensures same { O.same output.old output.new }
+    ensures same { SameSink O.Sink output.old output.new }
 {
     match job {
         Job::RecordLog(job) => record_log(alloc, job, input, output),

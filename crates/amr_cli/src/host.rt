@@ -6,7 +6,7 @@ ghost use Rattle.std.specs.Process.{exit_status};
 ghost use Rattle.std.specs.Vec.Iter.{into_iter_items};
 ghost use Rattle.amr_cli.specs.Host.{HasRun, NotRun, line_without_words, status_without_words};
 ghost use Rattle.amr_cli.specs.Noted.{Noted};
-ghost use Rattle.amr_cli.specs.Runs.{run_of};
+ghost use Rattle.amr_cli.specs.Runs.{SameSink, run_of};
 ghost use Rattle.amr_cli.specs.Statuses.{number_for};
 ghost use Rattle.command_words.specs.Words.{texts};
 ghost use Rattle.spec_run.specs.Flows.{written_to};
@@ -77,7 +77,7 @@ fn words_behind(alloc: Global, mut args: Args) -> Result<Vec<String>, AllocError
 fn without_words<E: Sink>(why: io::ErrorKind, notes: &mut E) -> Status
     ensures status { result ≡ status_without_words why }
     ensures noted { Noted (written_to E.Sink notes.old notes.new) (line_without_words why) }
-    ensures same { E.same notes.old notes.new × (E.beside notes.new ≡ E.beside notes.old) }
+    ensures same { SameSink E.Sink notes.old notes.new }
 {
     match why {
         io::ErrorKind::OutOfMemory => {

@@ -2,7 +2,8 @@
 ghost use Rattle.std.specs.Prelude.{◌≡◌, ◌≢◌, ◌<◌, ◌↔◌, None, false};
 ghost use Rattle.amr_cli.specs.Jobs.{Asked, IsServed, job_of, meaning_of};
 ghost use Rattle.amr_cli.specs.Noted.{Noted};
-ghost use Rattle.amr_cli.specs.Runs.{Notes, NotesPart, PutsOut, Ran, StopsReading, StopsWriting, run_of};
+ghost use Rattle.amr_cli.specs.Runs.{Notes, NotesPart, PutsOut, Ran, SameSink};
+ghost use Rattle.amr_cli.specs.Runs.{StopsReading, StopsWriting, run_of};
 ghost use Rattle.amr_cli.specs.Statuses.{EndsAs};
 ghost use Rattle.command_words.specs.Words.{texts};
 ghost use Rattle.run_report.specs.Lines.{notes_of, usage_line};
@@ -70,8 +71,7 @@ pub fn run_gateway<I: Source, O: Sink, E: Sink>(
     // The whole run, and what stays.
     ensures run { Asked (texts words.now) (λ m. Ran m (run_of I.Source O.Sink E.Sink
         input.old input.new output.old output.new notes.old notes.new result)) }
-    ensures same { O.same output.old output.new × (O.beside output.new ≡ O.beside output.old)
-        × E.same notes.old notes.new × (E.beside notes.new ≡ E.beside notes.old) }
+    ensures same { SameSink O.Sink output.old output.new × SameSink E.Sink notes.old notes.new }
 {
     match read_words(words) {
         None => note_usage(notes),
@@ -93,8 +93,7 @@ fn run_job<I: Source, O: Sink, E: Sink>(
         input.old input.new output.old output.new notes.old notes.new result) }
     ensures memory { result ≡ Status.OutOfMemory → (output.new ≡ output.old)
         × ((meaning_of job.now).reads_first ≡ false → input.new ≡ input.old) }
-    ensures same { O.same output.old output.new × (O.beside output.new ≡ O.beside output.old)
-        × E.same notes.old notes.new × (E.beside notes.new ≡ E.beside notes.old) }
+    ensures same { SameSink O.Sink output.old output.new × SameSink E.Sink notes.old notes.new }
 {
     let report = run_engine(alloc, job, input, output);
     note(notes, noted_lines(job), &report)
@@ -104,7 +103,7 @@ fn run_job<I: Source, O: Sink, E: Sink>(
 pub fn note<E: Sink>(notes: &mut E, lines: CountLines, report: &RunReport) -> Status
     ensures noted { Noted (written_to E.Sink notes.old notes.new) (notes_of lines report.now) }
     ensures ended { EndsAs report.now.end (written_to E.Sink notes.old notes.new) result }
-    ensures same { E.same notes.old notes.new × (E.beside notes.new ≡ E.beside notes.old) }
+    ensures same { SameSink E.Sink notes.old notes.new }
 {
     match write_notes(notes, lines, report) {
         Ok(()) => status_of(report.end),
@@ -116,7 +115,7 @@ pub fn note<E: Sink>(notes: &mut E, lines: CountLines, report: &RunReport) -> St
 pub fn note_usage<E: Sink>(notes: &mut E) -> Status
     ensures noted { Noted (written_to E.Sink notes.old notes.new) usage_line }
     ensures status { result ≡ Status.Usage }
-    ensures same { E.same notes.old notes.new × (E.beside notes.new ≡ E.beside notes.old) }
+    ensures same { SameSink E.Sink notes.old notes.new }
 {
     let _written = write_usage(notes);
     Status::Usage

@@ -10,7 +10,7 @@ pub enum Status {
     Done,
     /// The words give no job; nothing was read or put out.
     Usage,
-    /// The log ended inside a record; the records before it were recorded.
+    /// The log ended inside a record, the storage file or the offer was refused; what stood before that was worked off.
     InputRefused,
     /// A read failed.
     ReadFault,
@@ -18,8 +18,10 @@ pub enum Status {
     WriteFault,
     /// There was no memory; nothing was read or put out.
     OutOfMemory,
-    /// The input has more octets than the limit; those within it were recorded.
+    /// The input has more octets than the limit; those within it were worked off.
     LimitReached,
+    /// No offered payload type suits; nothing was put out.
+    NoAnswer,
 }
 
 /// The status of a run that ended so.
@@ -29,10 +31,13 @@ pub fn status_of(end: RunEnd) -> Status
     match end {
         RunEnd::Done => Status::Done,
         RunEnd::LogCut { .. } => Status::InputRefused,
+        RunEnd::File(_) => Status::InputRefused,
+        RunEnd::Sdp(_) => Status::InputRefused,
         RunEnd::ReadFault => Status::ReadFault,
         RunEnd::WriteFault => Status::WriteFault,
         RunEnd::OutOfMemory => Status::OutOfMemory,
         RunEnd::LimitReached => Status::LimitReached,
+        RunEnd::NoAnswer => Status::NoAnswer,
     }
 }
 
@@ -58,5 +63,6 @@ pub fn number_of(status: Status) -> u8
         Status::WriteFault => 4,
         Status::OutOfMemory => 5,
         Status::LimitReached => 6,
+        Status::NoAnswer => 7,
     }
 }

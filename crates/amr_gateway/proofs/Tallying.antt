@@ -116,4 +116,5 @@ counted_right job t v kept records h is tallied late copies late_same copies_sam
       copies = (copies_same ∙ copies ∙ ap (copy_count rules) is) i;
       blocks = (blocks ∙ ap (block_count rules) is) i;
       sent = tallied.sent i;
+      refused = record { items = [] };
     }

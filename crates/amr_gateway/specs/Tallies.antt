@@ -1,5 +1,5 @@
 -- What a recorder counts: ours.
-use Rattle.std.specs.Prelude.{◌≡◌, ◌+◌, ◌≤◌, ℕ, List, length}
+use Rattle.std.specs.Prelude.{◌≡◌, ◌+◌, ◌≤◌, ℕ, List, [], length}
 use Rattle.amr_gateway.specs.declared.heard.Heard.{Heard}
 use Rattle.amr_gateway.specs.declared.heard.Heard.TheVariants.{Null, NoRtp, OtherType, NoPayload, NoPlace, Accepted}
 use Rattle.amr_playout.specs.declared.answers.Kept.{Kept}
@@ -37,7 +37,11 @@ pub record Tallied (r : Recording) (c : Counts) (records : List (List ℕ)) : Ty
       ≡ length (packets_of r.profile r.asked records)
   pub sent : c.sent ≡ 0
 
--- all that a recorder has counted: the records, and what its receiver counts
+-- all that a recorder has counted: the records, and what its receiver counts; it answers no offer
 abbrev pub counted_in_all : Counts → Kept → Counts
-counted_in_all c kept =
-    record c { late = kept.late; copies = kept.copies; blocks = kept.blocks }
+counted_in_all c kept = record c {
+  late = kept.late;
+  copies = kept.copies;
+  blocks = kept.blocks;
+  refused = record { items = [] };
+}

@@ -14,6 +14,7 @@ use crate::job::RecordJob;
 use amr_io::{Failed, Sink};
 use amr_playout::Receiver;
 use amr_store::StoreWriter;
+use arrayvec::ArrayVec;
 use log_engine::RecordHandler;
 use run_report::Counts;
 
@@ -54,6 +55,7 @@ impl Recorder {
             late: kept.late,
             copies: kept.copies,
             blocks: kept.blocks,
+            refused: ArrayVec::new(),
             ..self.tally
         }
     }

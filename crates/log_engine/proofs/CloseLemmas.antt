@@ -47,7 +47,7 @@ module _ {H A B : Type 0} (h : handler.Ghosts H) (s : source.Ghosts A) (k : sink
       halted_turn h s k first now next end.LimitReached r limit t
   after_turn first now next end.ReadFault grow r job limit grown t =
       halted_turn h s k first now next end.ReadFault r limit t
-  after_turn first now next end.OutOfMemory grow r job limit grown t = absurd t
+  after_turn first now next _ grow r job limit grown t = absurd t
 
   -- a run stopped unless a write failed
   pub halted_of : (first now : State H A B) (how : RunEnd)
@@ -57,7 +57,7 @@ module _ {H A B : Type 0} (h : handler.Ghosts H) (s : source.Ghosts A) (k : sink
   halted_of first now end.LimitReached after no_fault = after
   halted_of first now end.ReadFault after no_fault = after
   halted_of first now end.WriteFault after no_fault = absurd (no_fault refl)
-  halted_of first now end.OutOfMemory after no_fault = absurd after
+  halted_of first now _ after no_fault = absurd after
 
   -- no run wants memory
   pub never_memory : (first now : State H A B) (how : RunEnd) → After h s k first now how

@@ -19,19 +19,13 @@ failed_on one other c rose =
 
 pub faults_on : (how : RunEnd) (i i' o o' : Flow) → SameCount i i' → SameCount o o'
     → FaultsOf how i o → FaultsOf how i' o'
-faults_on end.Done i i' o o' c d f = (calm_on i i' c f.0, calm_on o o' d f.1)
-faults_on (end.LogCut have) i i' o o' c d f = (calm_on i i' c f.0, calm_on o o' d f.1)
-faults_on end.LimitReached i i' o o' c d f = (calm_on i i' c f.0, calm_on o o' d f.1)
-faults_on end.OutOfMemory i i' o o' c d f = (calm_on i i' c f.0, calm_on o o' d f.1)
 faults_on end.ReadFault i i' o o' c d f = (failed_on i i' c f.0, calm_on o o' d f.1)
 faults_on end.WriteFault i i' o o' c d f = (calm_on i i' c f.0, failed_on o o' d f.1)
+faults_on _ i i' o o' c d f = (calm_on i i' c f.0, calm_on o o' d f.1)
 
 -- a run that met no fault
 pub calm_at : (how : RunEnd) (i o : Flow) → how ≢ end.ReadFault → how ≢ end.WriteFault
     → FaultsOf how i o → Calm i × Calm o
-calm_at end.Done i o r w f = f
-calm_at (end.LogCut have) i o r w f = f
-calm_at end.LimitReached i o r w f = f
-calm_at end.OutOfMemory i o r w f = f
 calm_at end.ReadFault i o r w f = absurd (r refl)
 calm_at end.WriteFault i o r w f = absurd (w refl)
+calm_at _ i o r w f = f

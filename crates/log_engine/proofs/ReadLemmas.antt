@@ -125,5 +125,4 @@ why_on (end.LogCut have) left0 left all more rest extra taken limit limit' on si
 why_on end.LimitReached left0 left all more rest extra taken limit limit' on size same w =
     record { one = w.one; over = w.over; full = size ∙ w.full ∙ same }
 why_on end.ReadFault left0 left all more rest extra taken limit limit' on size same w = w
-why_on end.WriteFault left0 left all more rest extra taken limit limit' on size same w = absurd w
-why_on end.OutOfMemory left0 left all more rest extra taken limit limit' on size same w = absurd w
+why_on _ left0 left all more rest extra taken limit limit' on size same w = absurd w

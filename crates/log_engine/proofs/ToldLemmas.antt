@@ -154,8 +154,7 @@ says limit input hs rest extra (end.LogCut have) t ok all e =
 says limit input hs rest extra end.LimitReached t ok all e =
     passed_says limit input hs rest extra t.took t.partial t.why all e
 says limit input hs rest extra end.ReadFault t ok all e = absurd (ok refl)
-says limit input hs rest extra end.WriteFault t ok all e = absurd t.why
-says limit input hs rest extra end.OutOfMemory t ok all e = absurd t.why
+says limit input hs rest extra _ t ok all e = absurd t.why
 
 -- nothing is left behind an edge of a record
 edge : (rest : List ℕ) → end.Done ≡ rest_end rest → rest ≡ []

@@ -62,4 +62,4 @@ After h s k first now end.Done = Halted h s k first now end.Done
 After h s k first now (end.LogCut have) = Halted h s k first now (end.LogCut have)
 After h s k first now end.LimitReached = Halted h s k first now end.LimitReached
 After h s k first now end.ReadFault = Halted h s k first now end.ReadFault
-After h s k first now end.OutOfMemory = ⊥
+After h s k first now _ = ⊥

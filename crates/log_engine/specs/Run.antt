@@ -32,11 +32,10 @@ pub record Passed (taken limit : ℕ) (extra : List ℕ) : Type 0 where
 abbrev pub Why : Option (List ℕ) → List ℕ → ℕ → ℕ → List ℕ → List ℕ → RunEnd → Type 0
 Why told octets taken limit rest extra end.LimitReached = Passed taken limit extra
 Why told octets taken limit rest extra end.ReadFault = extra ≡ []
-Why told octets taken limit rest extra end.WriteFault = ⊥
-Why told octets taken limit rest extra end.OutOfMemory = ⊥
 Why told octets taken limit rest extra end.Done = Ended told octets rest extra end.Done
 Why told octets taken limit rest extra (end.LogCut have) =
     Ended told octets rest extra (end.LogCut have)
+Why told octets taken limit rest extra _ = ⊥
 
 -- the records of the input are these, and `rest` is less than one more
 pub record Stopped (limit : ℕ) (input : Flow) (packets : List (List ℕ)) (rest extra : List ℕ)

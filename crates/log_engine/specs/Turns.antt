@@ -108,4 +108,4 @@ Turned h s k old new (Some end.Done) = Missed s old new end.Done
 Turned h s k old new (Some (end.LogCut have)) = Missed s old new (end.LogCut have)
 Turned h s k old new (Some end.LimitReached) = Missed s old new end.LimitReached
 Turned h s k old new (Some end.ReadFault) = Missed s old new end.ReadFault
-Turned h s k old new (Some end.OutOfMemory) = ⊥
+Turned h s k old new (Some _) = ⊥

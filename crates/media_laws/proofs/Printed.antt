@@ -11,7 +11,7 @@ use Rattle.spec_media.specs.Params.{AreParameters, Parameters, Row, rows, octet_
 use Rattle.spec_media.specs.Pieces.{number_in, pieces, trimmed, value_of}
 use Rattle.spec_media.specs.Printing.{mode_list, on, printed, printed_value}
 use Rattle.spec_media.specs.Reading.{answered, asks_alignment, given, is_given, modes_of, parameters_in, parameters_of, piece_refusal, refusal}
-use Rattle.spec_media.specs.declared.refusal.FmtpRefusal.TheVariants as why
+use Rattle.refusals.specs.declared.media.FmtpRefusal.TheVariants as why
 use Rattle.spec_modes.specs.ModeSets.{IsModeSet, modes_among}
 
 -- the values of rows as they are printed, and the pieces of the text

@@ -12,7 +12,7 @@ use Rattle.media_laws.proofs.Values.{AllowsAll, IsAllowed}
 use Rattle.spec_media.specs.Params.{Row, is_allowed}
 use Rattle.spec_media.specs.Pieces.{is_empty}
 use Rattle.spec_media.specs.Reading.{piece_refusal, row_refusal, same_name}
-use Rattle.spec_media.specs.declared.refusal.FmtpRefusal.TheVariants as why
+use Rattle.refusals.specs.declared.media.FmtpRefusal.TheVariants as why
 
 -- the first answer is behind those that aren't there
 pub none_before : {X : Type 0} (f : ℕ → Option X) (a n : ℕ) (answers : List (Option X)) → ((k : ℕ) → a ≤ k → k < a + n → f k ≡ None) → first (map f (range_with_len a n) ++ answers) ≡ first answers

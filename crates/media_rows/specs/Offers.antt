@@ -4,7 +4,9 @@ use Rattle.amr_frame.specs.declared.codec.Codec.TheVariants.{Amr, AmrWb}
 use Rattle.media_rows.specs.Words.{aligned, plain}
 use Rattle.spec_media.specs.Params.{Parameters}
 use Rattle.spec_modes.specs.ModeSets.{all_modes}
-use Rattle.spec_offer.specs.Answering.{Answering, answer_notes, answer_out}
+use Rattle.run_report.specs.Lines.{count_lines}
+use Rattle.run_report.specs.declared.report.CountLines.TheVariants as lines
+use Rattle.spec_offer.specs.Answering.{Answering, answer_counts, answer_out}
 use Rattle.spec_offer.specs.Answers.{Wanted}
 use Rattle.spec_offer.specs.Attributes.{Map, Media}
 use Rattle.spec_offer.specs.Lines.{lines}
@@ -82,7 +84,7 @@ abbrev pub answer : Wanted → List ℕ → List ℕ
 answer w text = answer_out (asks w) 65536 text
 
 abbrev pub noted : Wanted → List ℕ → List ℕ
-noted w text = answer_notes (asks w) 65536 text
+noted w text = count_lines lines.Answering (answer_counts (asks w) 65536 text)
 
 -- an answer that takes type 98, with this line of its parameters
 abbrev pub answer_with : List ℕ → List ℕ

@@ -1,12 +1,14 @@
 ghost use Rattle.amr_frame.specs.declared.codec.Codec.TheVariants.{AmrWb};
 ghost use Rattle.media_rows.specs.Offers.{amr_with, answer, answer_with, asks, modes_wanted, noted, offer_with, plain_type, wanted, wide_type, worked_offer};
 ghost use Rattle.media_rows.specs.Words.{aligned, plain};
-ghost use Rattle.spec_offer.specs.Answering.{Done, LimitReached, NoAnswer, Refused, answer_end, answer_out, offer_refusal_line};
+ghost use Rattle.run_report.specs.Lines.{offer_line};
+ghost use Rattle.run_report.specs.declared.end.RunEnd.TheVariants.{Done, LimitReached, NoAnswer, Sdp};
+ghost use Rattle.spec_offer.specs.Answering.{answer_end, answer_out};
 ghost use Rattle.spec_offer.specs.Answers.{unsuited};
-ghost use Rattle.spec_media.specs.declared.param.Param.TheVariants as param;
-ghost use Rattle.spec_media.specs.declared.refusal.FmtpRefusal.TheVariants as fmtp;
-ghost use Rattle.spec_offer.specs.declared.answer.Why.TheVariants as reason;
-ghost use Rattle.spec_offer.specs.declared.refusal.OfferRefusal.TheVariants as why;
+ghost use Rattle.refusals.specs.declared.param.Param.TheVariants as param;
+ghost use Rattle.refusals.specs.declared.media.FmtpRefusal.TheVariants as fmtp;
+ghost use Rattle.refusals.specs.declared.answer.Why.TheVariants as reason;
+ghost use Rattle.refusals.specs.declared.offer.OfferRefusal.TheVariants as why;
 ghost use Rattle.std.specs.Prelude.{◌++◌, ◌∷◌, ◌≡◌, None, Some, [], codes, false, true};
 
 /// The first reason against an offered type.
@@ -60,13 +62,13 @@ pub fn ends_of_answers()
         (amr_with (codes "a=fmtp:98 interleaving=8\n"))
         ≡ NoAnswer }
     ensures refused { answer_end (asks wanted) 65536 (offer_with (codes "a=rtpmap:98 AMR") [])
-        ≡ Refused (why.BadMap 9) }
+        ≡ Sdp (why.BadMap 9) }
     ensures refused_parameters { answer_end (asks wanted) 65536
         (amr_with (codes "a=fmtp:98 crc=1; octet-align=0\n"))
-        ≡ Refused (why.Parameters 98 fmtp.Contradiction) }
+        ≡ Sdp (why.Parameters 98 fmtp.Contradiction) }
     ensures past_the_limit { answer_end (asks wanted) 10 worked_offer ≡ LimitReached }
     ensures nothing_past_the_limit { answer_out (asks wanted) 10 worked_offer ≡ [] }
-    ensures one_octet_under_one { answer_end (asks wanted) 1 (codes "v") ≡ Refused why.NoAudio }
+    ensures one_octet_under_one { answer_end (asks wanted) 1 (codes "v") ≡ Sdp why.NoAudio }
 {}
 
 /// What answering notes.
@@ -75,13 +77,13 @@ pub fn noted_offers()
     ensures none_suits { noted (modes_wanted (0 ∷ 2 ∷ [])) worked_offer
         ≡ codes "type=97 refused=codec\ntype=98 refused=modes\n" }
     ensures refused { noted wanted (offer_with (codes "a=rtpmap:98 AMR") []) ≡ [] }
-    ensures f1 { offer_refusal_line (why.Parameters 98 fmtp.NoName) ≡ codes "refused=F1 pt=98\n" }
-    ensures f2 { offer_refusal_line (why.Parameters 98 (fmtp.BadValue param.ModeSet))
+    ensures f1 { offer_line (why.Parameters 98 fmtp.NoName) ≡ codes "refused=F1 pt=98\n" }
+    ensures f2 { offer_line (why.Parameters 98 (fmtp.BadValue param.ModeSet))
         ≡ codes "refused=F2 pt=98 param=mode-set\n" }
-    ensures f3 { offer_refusal_line (why.Parameters 98 (fmtp.Repeated param.Crc))
+    ensures f3 { offer_line (why.Parameters 98 (fmtp.Repeated param.Crc))
         ≡ codes "refused=F3 pt=98 param=crc\n" }
-    ensures f4 { offer_refusal_line (why.Parameters 98 fmtp.Contradiction)
+    ensures f4 { offer_line (why.Parameters 98 fmtp.Contradiction)
         ≡ codes "refused=F4 pt=98\n" }
-    ensures f5 { offer_refusal_line why.NoAudio ≡ codes "refused=F5\n" }
-    ensures f6 { offer_refusal_line (why.BadMap 9) ≡ codes "refused=F6 line=9\n" }
+    ensures f5 { offer_line why.NoAudio ≡ codes "refused=F5\n" }
+    ensures f6 { offer_line (why.BadMap 9) ≡ codes "refused=F6 line=9\n" }
 {}

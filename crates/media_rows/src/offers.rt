@@ -1,11 +1,11 @@
 ghost use Rattle.amr_frame.specs.declared.codec.Codec.TheVariants.{Amr, AmrWb};
 ghost use Rattle.media_rows.specs.Offers.{amr_with, map_to, media, no_types, offer_with, plain_type, texts, typed, worked, worked_offer};
 ghost use Rattle.media_rows.specs.Words.{aligned, plain};
-ghost use Rattle.spec_media.specs.declared.param.Param.TheVariants as param;
-ghost use Rattle.spec_media.specs.declared.refusal.FmtpRefusal.TheVariants as fmtp;
+ghost use Rattle.refusals.specs.declared.param.Param.TheVariants as param;
+ghost use Rattle.refusals.specs.declared.media.FmtpRefusal.TheVariants as fmtp;
 ghost use Rattle.spec_offer.specs.Attributes.{format_in, map_in, media_in};
 ghost use Rattle.spec_offer.specs.Offers.{offer_of};
-ghost use Rattle.spec_offer.specs.declared.refusal.OfferRefusal.TheVariants as why;
+ghost use Rattle.refusals.specs.declared.offer.OfferRefusal.TheVariants as why;
 ghost use Rattle.std.specs.Prelude.{◌++◌, ◌∷◌, ◌≡◌, Err, None, Ok, Some, [], codes, true};
 
 /// The lines of a text (RFC 4566, 5): a CR at the end is dropped, and nothing behind the last LF

@@ -2,8 +2,8 @@ ghost use Rattle.amr_frame.specs.declared.codec.Codec.TheVariants.{Amr, AmrWb};
 ghost use Rattle.media_rows.specs.Words.{aligned, every, plain};
 ghost use Rattle.spec_media.specs.Printing.{printed};
 ghost use Rattle.spec_media.specs.Reading.{parameters_of};
-ghost use Rattle.spec_media.specs.declared.param.Param.TheVariants as param;
-ghost use Rattle.spec_media.specs.declared.refusal.FmtpRefusal.TheVariants as why;
+ghost use Rattle.refusals.specs.declared.param.Param.TheVariants as param;
+ghost use Rattle.refusals.specs.declared.media.FmtpRefusal.TheVariants as why;
 ghost use Rattle.std.specs.Prelude.{◌++◌, ◌∷◌, ◌≡◌, Err, Ok, Some, [], codes, true};
 
 /// Texts of media parameters that are read (RFC 4867, 8.1 and 8.2), and what they give.

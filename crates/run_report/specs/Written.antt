@@ -1,8 +1,13 @@
--- What a failed writer of notes did to the sink that it writes to. It is ours.
-use Rattle.std.specs.Prelude.{◌≡◌, ℕ, List, ◌++◌, Option}
+-- What a writer of notes did to the sink that it writes to. It is ours.
+use Rattle.std.specs.Prelude.{◌≡◌, ℕ, List, [], Ok, OnErr, OnOk, Result}
 use Rattle.std.specs.Io.KnownBytes.{Appends}
+use Rattle.amr_io.specs.Told.{AppendsFront}
+use Rattle.amr_io.specs.declared.sink.Sink as sink
 
--- a front of the octets was added to those that the sink got
-abbrev pub AppendsFront : Option (List ℕ) → Option (List ℕ) → List ℕ → Type 0
-AppendsFront got got' octets =
-    (front : List ℕ) × (rest : List ℕ) × (octets ≡ front ++ rest) × Appends got got' front
+-- the sink got this text; where the call failed, a front of it; where there is no text, the sink
+-- isn't called
+pub record Writes {S E : Type 0} (k : sink.Ghosts S) (text : List ℕ) (old new : S)
+    (result : Result (Unit {0}) E) : Type 0 where
+  pub whole : OnOk result (Appends (k.got old) (k.got new) text)
+  pub part : OnErr result (AppendsFront (k.got old) (k.got new) text)
+  pub none : text ≡ [] → (result ≡ Ok tt) × (new ≡ old)

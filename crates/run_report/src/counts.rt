@@ -2,11 +2,14 @@
 ghost use Rattle.std.specs.Prelude.{◌≡◌};
 ghost use Rattle.run_report.specs.Lines.{no_counts};
 
+use arrayvec::ArrayVec;
+use refusals::RefusedType;
+
 /// The counts of a run.
 ///
 /// A record of a log that puts nothing into the session counts once, under the first of `null`, `rtp`, `other_type`,
 /// `payload` and `place` whose test it meets.
-#[derive(Clone, Copy, Debug, PartialEq, Eq)]
+#[derive(Clone, Debug, PartialEq, Eq, Drop)]
 pub struct Counts {
     /// Whole records of the log.
     pub packets: u64,
@@ -28,6 +31,8 @@ pub struct Counts {
     pub blocks: u64,
     /// Packets sent.
     pub sent: u64,
+    /// The offered payload types that don't suit, in their order, each once; none but where an offer is answered.
+    pub refused: ArrayVec<RefusedType, 128>,
 }
 
 impl Counts {
@@ -46,6 +51,7 @@ impl Counts {
             copies: 0,
             blocks: 0,
             sent: 0,
+            refused: ArrayVec::new(),
         }
     }
 }

@@ -1,5 +1,7 @@
 use crate::{CountLines, Counts, RunEnd, RunReport, write_notes, write_usage};
 use amr_io::{Failed, MemorySink};
+use arrayvec::ArrayVec;
+use refusals::{FmtpRefusal, OfferRefusal, Param, RefusedType, StoreRefusal, Why};
 use std::test::Fail;
 
 const ZEROS: &[u8] = b"packets=0 null=0 rtp=0 type=0 payload=0 place=0 late=0 copies=0 blocks=0\n";
@@ -17,6 +19,7 @@ fn counts_stand_behind_their_names(rt: HostRuntime) -> Result<(), Fail> {
         copies: 9,
         blocks: 1000,
         sent: 7,
+        refused: ArrayVec::new(),
     };
     let most = 18_446_744_073_709_551_615;
     let full = Counts {
@@ -30,6 +33,7 @@ fn counts_stand_behind_their_names(rt: HostRuntime) -> Result<(), Fail> {
         copies: most,
         blocks: most,
         sent: most,
+        refused: ArrayVec::new(),
     };
     let rows: [(Counts, &[u8]); 3] = [
         (Counts::none(), ZEROS),
@@ -58,8 +62,55 @@ fn counts_stand_behind_their_names(rt: HostRuntime) -> Result<(), Fail> {
 }
 
 #[test]
+fn each_command_has_its_lines(rt: HostRuntime) -> Result<(), Fail> {
+    let mut counts = Counts {
+        blocks: 18_446_744_073_709_551_615,
+        sent: 50,
+        ..Counts::none()
+    };
+    let reasons = [
+        Why::Codec,
+        Why::Channels,
+        Why::Crc,
+        Why::Sorting,
+        Why::Interleaving,
+        Why::Modes,
+    ];
+    for why in reasons {
+        counts.refused.push(RefusedType { pt: 97, why });
+    }
+    let report = RunReport {
+        end: RunEnd::NoAnswer,
+        counts,
+    };
+    let rows: [(CountLines, &[u8]); 4] = [
+        (CountLines::None, b"no answer\n"),
+        (
+            CountLines::Sending,
+            b"blocks=18446744073709551615 packets=50\nno answer\n",
+        ),
+        (
+            CountLines::Converting,
+            b"packets=0 null=0 rtp=0 type=0 payload=0 place=0 late=0 copies=0 blocks=18446744073709551615\nblocks=18446744073709551615 packets=50\nno answer\n",
+        ),
+        (
+            CountLines::Answering,
+            b"type=97 refused=codec\ntype=97 refused=channels\ntype=97 refused=crc\ntype=97 refused=sorting\ntype=97 refused=interleaving\ntype=97 refused=modes\nno answer\n",
+        ),
+    ];
+    for (lines, text) in rows {
+        let mut notes = MemorySink::create(rt.alloc(), 999, 40, &[])?;
+        assert_eq!(rt; write_notes(&mut notes, lines, &report), Ok(()));
+        assert_eq!(rt; notes.octets(), text);
+    }
+    Ok(())
+}
+
+#[test]
 fn each_end_has_its_line(rt: HostRuntime) -> Result<(), Fail> {
-    let rows: [(RunEnd, &[u8], &[u8]); 7] = [
+    let place = 18_446_744_073_709_551_615;
+    let fmtp = |refusal| RunEnd::Sdp(OfferRefusal::Parameters { pt: 98, refusal });
+    let rows: [(RunEnd, &[u8], &[u8]); 19] = [
         (RunEnd::Done, ZEROS, b""),
         (RunEnd::LogCut { have: 1 }, ZEROS, b"truncated have=1\n"),
         (
@@ -71,6 +122,54 @@ fn each_end_has_its_line(rt: HostRuntime) -> Result<(), Fail> {
         (RunEnd::WriteFault, b"", b"write fault\n"),
         (RunEnd::OutOfMemory, b"", b"out of memory\n"),
         (RunEnd::LimitReached, ZEROS, b"limit reached\n"),
+        (RunEnd::NoAnswer, ZEROS, b"no answer\n"),
+        (RunEnd::File(StoreRefusal::Magic), ZEROS, b"refused=T1\n"),
+        (
+            RunEnd::File(StoreRefusal::Channels { chan: 2 }),
+            ZEROS,
+            b"refused=T2 chan=2\n",
+        ),
+        (
+            RunEnd::File(StoreRefusal::Reserved { place: 6, ft: 9 }),
+            ZEROS,
+            b"refused=T3 place=6 ft=9\n",
+        ),
+        (
+            RunEnd::File(StoreRefusal::Truncated { place }),
+            ZEROS,
+            b"refused=T4 place=18446744073709551615\n",
+        ),
+        (
+            RunEnd::File(StoreRefusal::BlockRest { place: 16 }),
+            ZEROS,
+            b"refused=T5 place=16\n",
+        ),
+        (fmtp(FmtpRefusal::NoName), ZEROS, b"refused=F1 pt=98\n"),
+        (
+            fmtp(FmtpRefusal::BadValue {
+                param: Param::ModeSet,
+            }),
+            ZEROS,
+            b"refused=F2 pt=98 param=mode-set\n",
+        ),
+        (
+            fmtp(FmtpRefusal::Repeated {
+                param: Param::Capability,
+            }),
+            ZEROS,
+            b"refused=F3 pt=98 param=mode-change-capability\n",
+        ),
+        (
+            fmtp(FmtpRefusal::Contradiction),
+            ZEROS,
+            b"refused=F4 pt=98\n",
+        ),
+        (RunEnd::Sdp(OfferRefusal::NoAudio), ZEROS, b"refused=F5\n"),
+        (
+            RunEnd::Sdp(OfferRefusal::BadMap { line: 9 }),
+            ZEROS,
+            b"refused=F6 line=9\n",
+        ),
     ];
     for (end, told, line) in rows {
         let report = RunReport {

@@ -4,7 +4,7 @@ ghost use Rattle.sending_rows.specs.Sends.{blocks, multi_magic, silence, small_f
 ghost use Rattle.spec_store.specs.StorageFile.{header};
 ghost use Rattle.spec_store.specs.StorageGrammar.{IsFileBy, Multi, Single};
 ghost use Rattle.spec_store.specs.StorageReading.{blocks_in, shown_refusal, store_refusal};
-ghost use Rattle.spec_store.specs.declared.refusal.StoreRefusal.TheVariants as why;
+ghost use Rattle.refusals.specs.declared.store.StoreRefusal.TheVariants as why;
 ghost use Rattle.std.specs.List.{range_with_len};
 ghost use Rattle.std.specs.Prelude.{◌++◌, ◌∷◌, ◌≡◌, List, None, Some, [], length, map, replicate, take, ℕ};
 ghost use Rattle.worked_rows.specs.Words.{magic, two_channels, zeros};

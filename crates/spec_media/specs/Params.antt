@@ -1,11 +1,12 @@
 -- The media parameters (RFC 4867, 8.1 and 8.2): their names and the values that each may have.
 -- The range of `interleaving` is this project's own.
-use Rattle.std.specs.Prelude.{◌≡◌, ◌≤◌, ◌<◌, ◌^◌, ℕ, Bool, false, not, ◌&&◌, ◌||◌, nat_le, List, [], ◌∷◌, find, Option, Some, None, is_some, IfSome, codes}
+use Rattle.std.specs.Prelude.{◌≡◌, ◌≤◌, ◌<◌, ◌^◌, ℕ, Bool, false, not, ◌&&◌, ◌||◌, nat_le, List, [], ◌∷◌, find, Option, Some, None, is_some, IfSome}
 use Rattle.std.specs.List.{list_all}
 use Rattle.std.specs.Str.{str_eq_ignore_ascii_case}
 use Rattle.amr_frame.specs.declared.codec.Codec.{Codec}
-use Rattle.spec_media.specs.declared.param.Param.{Param}
-use Rattle.spec_media.specs.declared.param.Param.TheVariants as param
+use Rattle.refusals.specs.Names.{param_name}
+use Rattle.refusals.specs.declared.param.Param.{Param}
+use Rattle.refusals.specs.declared.param.Param.TheVariants as param
 use Rattle.spec_media.specs.Pieces.{items, name_of, number_in}
 use Rattle.spec_modes.specs.ModeSets.{IsModeSet, is_mode}
 
@@ -20,36 +21,36 @@ pub record Row : Type 0 where
   pub name : List ℕ
   pub values : Values
 
-abbrev row : Param → List ℕ → Values → Row
-row param name values = record { param = param; name = name; values = values }
+abbrev row : Param → Values → Row
+row param values = record { param = param; name = param_name param; values = values }
 
 -- the rows, in the order in which parameters are printed
 abbrev pub octet_align : Row
-octet_align = row param.OctetAlign (codes "octet-align") (Range 0 1)
+octet_align = row param.OctetAlign (Range 0 1)
 
 abbrev pub mode_set : Row
-mode_set = row param.ModeSet (codes "mode-set") Modes
+mode_set = row param.ModeSet Modes
 
 abbrev pub period : Row
-period = row param.Period (codes "mode-change-period") (Range 1 2)
+period = row param.Period (Range 1 2)
 
 abbrev pub capability : Row
-capability = row param.Capability (codes "mode-change-capability") (Range 1 2)
+capability = row param.Capability (Range 1 2)
 
 abbrev pub neighbor : Row
-neighbor = row param.Neighbor (codes "mode-change-neighbor") (Range 0 1)
+neighbor = row param.Neighbor (Range 0 1)
 
 abbrev pub crc : Row
-crc = row param.Crc (codes "crc") (Range 0 1)
+crc = row param.Crc (Range 0 1)
 
 abbrev pub sorting : Row
-sorting = row param.Sorting (codes "robust-sorting") (Range 0 1)
+sorting = row param.Sorting (Range 0 1)
 
 abbrev pub interleaving : Row
-interleaving = row param.Interleaving (codes "interleaving") (Range 1 65535)
+interleaving = row param.Interleaving (Range 1 65535)
 
 abbrev pub max_red : Row
-max_red = row param.MaxRed (codes "max-red") (Range 0 65535)
+max_red = row param.MaxRed (Range 0 65535)
 
 -- the table
 abbrev pub rows : List Row

@@ -4,8 +4,8 @@
 use Rattle.std.specs.Prelude.{ℕ, Bool, cond, nat_eq, List, ◌++◌, filter_map, Option, Some, None, option_map, codes, decimal}
 use Rattle.std.specs.List.{join_by}
 use Rattle.amr_frame.specs.First.{when}
-use Rattle.spec_media.specs.declared.param.Param.{Param}
-use Rattle.spec_media.specs.declared.param.Param.TheVariants as param
+use Rattle.refusals.specs.declared.param.Param.{Param}
+use Rattle.refusals.specs.declared.param.Param.TheVariants as param
 use Rattle.spec_media.specs.Params.{Row, Parameters, rows}
 
 -- a parameter that is on, or a number that isn't 1

@@ -7,8 +7,8 @@ use Rattle.std.specs.Option.{unwrap_or}
 use Rattle.std.specs.Str.{str_eq_ignore_ascii_case}
 use Rattle.amr_frame.specs.declared.codec.Codec.{Codec}
 use Rattle.amr_frame.specs.First.{when, first}
-use Rattle.spec_media.specs.declared.refusal.FmtpRefusal.{FmtpRefusal}
-use Rattle.spec_media.specs.declared.refusal.FmtpRefusal.TheVariants as why
+use Rattle.refusals.specs.declared.media.FmtpRefusal.{FmtpRefusal}
+use Rattle.refusals.specs.declared.media.FmtpRefusal.TheVariants as why
 use Rattle.spec_media.specs.Params.{Row, Parameters, is_named, row_of, is_allowed, octet_align, mode_set, period, capability, neighbor, crc, sorting, interleaving, max_red}
 use Rattle.spec_media.specs.Pieces.{is_empty, items, name_of, number_in, pieces, value_of}
 use Rattle.spec_modes.specs.ModeSets.{modes_among}

@@ -2,8 +2,4 @@
 //! they are printed: definitions alone.
 #![tactic(auto)]
 
-mod param;
-mod refusal;
-
-pub use param::Param;
-pub use refusal::FmtpRefusal;
+pub use refusals::{FmtpRefusal, Param};

@@ -1,42 +1,35 @@
 -- Answering the offer that a whole input is: what is put out, how it ends, and what is noted.
 -- This project's own.
-use Rattle.std.specs.Prelude.{ℕ, cond, nat_lt, List, [], ◌++◌, length, flat_map, Option, Some, None, Result, Ok, Err, codes, decimal}
-use Rattle.spec_media.specs.Params.{row_for}
-use Rattle.spec_media.specs.declared.refusal.FmtpRefusal.{FmtpRefusal}
-use Rattle.spec_media.specs.declared.refusal.FmtpRefusal.TheVariants as fmtp
+use Rattle.std.specs.Prelude.{ℕ, cond, nat_lt, true, List, [], length, Option, Some, None, Result, Ok, Err}
+use Rattle.refusals.specs.declared.answer.RefusedType.{RefusedType}
+use Rattle.refusals.specs.declared.offer.OfferRefusal.{OfferRefusal}
+use Rattle.run_report.specs.Lines.{no_counts}
+use Rattle.run_report.specs.declared.counts.Counts.{Counts}
+use Rattle.run_report.specs.declared.end.RunEnd.{RunEnd}
+use Rattle.run_report.specs.declared.end.RunEnd.TheVariants as end
+use Rattle.run_report.specs.declared.report.CountLines.TheVariants as lines
 use Rattle.spec_offer.specs.Answers.{Chosen, Wanted, answer_text, answer_to}
 use Rattle.spec_offer.specs.Offers.{Offer, offer_of}
-use Rattle.spec_offer.specs.declared.answer.RefusedType.{RefusedType}
-use Rattle.spec_offer.specs.declared.answer.Why.{Why}
-use Rattle.spec_offer.specs.declared.answer.Why.TheVariants as reason
-use Rattle.spec_offer.specs.declared.refusal.OfferRefusal.{OfferRefusal}
-use Rattle.spec_offer.specs.declared.refusal.OfferRefusal.TheVariants as why
+use Rattle.spec_run.specs.Meanings.{Meaning}
 
 -- what is to be answered: what is wanted, and the port of the answer
 pub record Answering : Type 0 where
   pub wanted : Wanted
   pub port : ℕ
 
--- how answering ends without a fault
-pub data End : Type 0 where
-  LimitReached : End
-  Refused : OfferRefusal → End
-  NoAnswer : End
-  Done : End
+abbrev chosen_end : Option Chosen → RunEnd
+chosen_end None = end.NoAnswer
+chosen_end (Some c) = end.Done
 
-abbrev chosen_end : Option Chosen → End
-chosen_end None = NoAnswer
-chosen_end (Some c) = Done
-
-abbrev offer_end : Wanted → Result Offer OfferRefusal → End
-offer_end w (Err r) = Refused r
+abbrev offer_end : Wanted → Result Offer OfferRefusal → RunEnd
+offer_end w (Err r) = end.Sdp r
 offer_end w (Ok o) = chosen_end (answer_to o w).chosen
 
 -- the first that holds: the input is longer than the limit, the offer is refused, no type suits,
 -- or all went well
-abbrev pub answer_end : Answering → ℕ → List ℕ → End
+abbrev pub answer_end : Answering → ℕ → List ℕ → RunEnd
 answer_end a limit input =
-    cond (nat_lt limit (length input)) LimitReached (offer_end a.wanted (offer_of input))
+    cond (nat_lt limit (length input)) end.LimitReached (offer_end a.wanted (offer_of input))
 
 abbrev chosen_text : Offer → Answering → Option Chosen → List ℕ
 chosen_text o a None = []
@@ -50,41 +43,29 @@ offer_text a (Ok o) = chosen_text o a (answer_to o a.wanted).chosen
 abbrev pub answer_out : Answering → ℕ → List ℕ → List ℕ
 answer_out a limit input = cond (nat_lt limit (length input)) [] (offer_text a (offer_of input))
 
--- the name of a reason
-abbrev pub why_name : Why → List ℕ
-why_name reason.Codec = codes "codec"
-why_name reason.Channels = codes "channels"
-why_name reason.Crc = codes "crc"
-why_name reason.Sorting = codes "sorting"
-why_name reason.Interleaving = codes "interleaving"
-why_name reason.Modes = codes "modes"
+abbrev types_refused : Wanted → Result Offer OfferRefusal → List RefusedType
+types_refused w (Err r) = []
+types_refused w (Ok o) = (answer_to o w).refused
 
--- the note of a type that doesn't suit
-abbrev pub refused_line : RefusedType → List ℕ
-refused_line r = codes "type=" ++ decimal r.pt ++ codes " refused=" ++ why_name r.why ++ codes "\n"
+-- what is counted: the types that don't suit, where the offer is read
+abbrev pub answer_counts : Answering → ℕ → List ℕ → Counts
+answer_counts a limit input = record no_counts {
+  refused = record {
+    items = cond (nat_lt limit (length input)) [] (types_refused a.wanted (offer_of input));
+  };
+}
 
-abbrev offer_notes : Wanted → Result Offer OfferRefusal → List ℕ
-offer_notes w (Err r) = []
-offer_notes w (Ok o) = flat_map refused_line (answer_to o w).refused
-
--- the notes before that of the end: a line for each type that doesn't suit, where the offer is read
-abbrev pub answer_notes : Answering → ℕ → List ℕ → List ℕ
-answer_notes a limit input =
-    cond (nat_lt limit (length input)) [] (offer_notes a.wanted (offer_of input))
-
--- a refusal of parameters as it is noted: its name, the payload type, and the parameter where one
--- is named
-abbrev fmtp_text : ℕ → FmtpRefusal → List ℕ
-fmtp_text pt fmtp.NoName = codes "F1 pt=" ++ decimal pt
-fmtp_text pt (fmtp.BadValue p) = codes "F2 pt=" ++ decimal pt ++ codes " param=" ++ (row_for p).name
-fmtp_text pt (fmtp.Repeated p) = codes "F3 pt=" ++ decimal pt ++ codes " param=" ++ (row_for p).name
-fmtp_text pt fmtp.Contradiction = codes "F4 pt=" ++ decimal pt
-
-abbrev offer_refusal_text : OfferRefusal → List ℕ
-offer_refusal_text why.NoAudio = codes "F5"
-offer_refusal_text (why.BadMap line) = codes "F6 line=" ++ decimal line
-offer_refusal_text (why.Parameters pt r) = fmtp_text pt r
-
--- the note of an offer that is refused
-abbrev pub offer_refusal_line : OfferRefusal → List ℕ
-offer_refusal_line r = codes "refused=" ++ offer_refusal_text r ++ codes "\n"
+-- what answering means, where at most `limit` octets are taken: nothing is out before all is read,
+-- and memory may be wanted once the offer was read
+abbrev pub answer_meaning : Answering → ℕ → Meaning
+answer_meaning a limit = record {
+  limit = limit;
+  out = answer_out a limit;
+  early = Some (λ read. []);
+  end = answer_end a limit;
+  counts = answer_counts a limit;
+  lines = lines.Answering;
+  reads = true;
+  reads_first = true;
+  lag = None;
+}

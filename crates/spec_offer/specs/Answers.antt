@@ -12,9 +12,9 @@ use Rattle.spec_media.specs.Pieces.{is_empty}
 use Rattle.spec_media.specs.Printing.{printed}
 use Rattle.spec_modes.specs.ModeSets.{all_modes, within}
 use Rattle.spec_offer.specs.Offers.{Offer, OfferedType, codec_name}
-use Rattle.spec_offer.specs.declared.answer.RefusedType.{RefusedType}
-use Rattle.spec_offer.specs.declared.answer.Why.{Why}
-use Rattle.spec_offer.specs.declared.answer.Why.TheVariants as reason
+use Rattle.refusals.specs.declared.answer.RefusedType.{RefusedType}
+use Rattle.refusals.specs.declared.answer.Why.{Why}
+use Rattle.refusals.specs.declared.answer.Why.TheVariants as reason
 
 -- what is wanted: a codec and a number of channels, modes, whether CRCs and sorting may be used,
 -- and the most blocks in an interleaving group, 0 where there are to be none

@@ -10,12 +10,12 @@ use Rattle.amr_frame.specs.First.{when, first}
 use Rattle.amr_frame.specs.Tables.{clock}
 use Rattle.spec_media.specs.Params.{Parameters}
 use Rattle.spec_media.specs.Reading.{parameters_of}
-use Rattle.spec_media.specs.declared.refusal.FmtpRefusal.{FmtpRefusal}
+use Rattle.refusals.specs.declared.media.FmtpRefusal.{FmtpRefusal}
 use Rattle.spec_offer.specs.Attributes.{Map}
 use Rattle.spec_offer.specs.Lines.{lines}
 use Rattle.spec_offer.specs.Sections.{Section, first_bad, format_of, map_of, maxptime_of, media_of, ptime_of, section_of}
-use Rattle.spec_offer.specs.declared.refusal.OfferRefusal.{OfferRefusal}
-use Rattle.spec_offer.specs.declared.refusal.OfferRefusal.TheVariants as why
+use Rattle.refusals.specs.declared.offer.OfferRefusal.{OfferRefusal}
+use Rattle.refusals.specs.declared.offer.OfferRefusal.TheVariants as why
 
 -- the name of a codec (RFC 4867, 8.1 and 8.2)
 abbrev pub codec_name : Codec → List ℕ

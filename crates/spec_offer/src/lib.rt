@@ -2,8 +2,4 @@
 //! to them: definitions alone.
 #![tactic(auto)]
 
-mod answer;
-mod refusal;
-
-pub use answer::{RefusedType, Why};
-pub use refusal::OfferRefusal;
+pub use refusals::{OfferRefusal, RefusedType, Why};

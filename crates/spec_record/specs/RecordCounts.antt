@@ -44,7 +44,7 @@ is_no_payload p asked octets = not (is_null octets) && has_no_payload p asked (r
 abbrev pub count : (List ℕ → Bool) → List (List ℕ) → ℕ
 count holds records = length (filter holds records)
 
--- what recording these records counts; it sends none
+-- what recording these records counts; it sends nothing and answers no offer
 abbrev pub counts_of : Recording → List (List ℕ) → Counts
 counts_of r records = let h = packets_of r.profile r.asked records in record {
   packets = length records;
@@ -57,4 +57,5 @@ counts_of r records = let h = packets_of r.profile r.asked records in record {
   copies = copy_count r.rules h;
   blocks = block_count r.rules h;
   sent = 0;
+  refused = record { items = [] };
 }

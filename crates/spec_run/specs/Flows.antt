@@ -41,9 +41,6 @@ Calm flow = flow.faults' ≡ flow.faults
 
 -- which count of faults rose, the input's or the output's, by the end
 abbrev pub FaultsOf : RunEnd → Flow → Flow → Type 0
-FaultsOf end.Done input output = Calm input × Calm output
-FaultsOf (end.LogCut have) input output = Calm input × Calm output
-FaultsOf end.LimitReached input output = Calm input × Calm output
-FaultsOf end.OutOfMemory input output = Calm input × Calm output
 FaultsOf end.ReadFault input output = Failed input × Calm output
 FaultsOf end.WriteFault input output = Calm input × Failed output
+FaultsOf _ input output = Calm input × Calm output

@@ -9,8 +9,8 @@ use Rattle.amr_frame.specs.declared.codec.Codec.{Codec}
 use Rattle.amr_frame.specs.First.{when, first}
 use Rattle.amr_frame.specs.Frames.{Frame}
 use Rattle.amr_frame.specs.Tables.{bits_in, octets_in, is_reserved}
-use Rattle.spec_store.specs.declared.refusal.StoreRefusal.{StoreRefusal}
-use Rattle.spec_store.specs.declared.refusal.StoreRefusal.TheVariants as why
+use Rattle.refusals.specs.declared.store.StoreRefusal.{StoreRefusal}
+use Rattle.refusals.specs.declared.store.StoreRefusal.TheVariants as why
 use Rattle.spec_store.specs.StorageFile.{single, multi}
 
 -- whether a file begins with a magic number, and whether it is itself a front of one

@@ -1,6 +1,4 @@
 //! What a storage file says (RFC 4867, 5), and why others are refused: definitions alone.
 #![tactic(auto)]
 
-mod refusal;
-
-pub use refusal::StoreRefusal;
+pub use refusals::StoreRefusal;

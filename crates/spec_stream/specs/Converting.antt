@@ -3,8 +3,11 @@
 use Rattle.std.specs.Prelude.{ℕ, List, length}
 use Rattle.amr_frame.specs.Frames.{Frame}
 use Rattle.run_report.specs.declared.counts.Counts.{Counts}
+use Rattle.run_report.specs.declared.report.CountLines.TheVariants as lines
 use Rattle.spec_record.specs.RecordCounts as recording
 use Rattle.spec_record.specs.Recording.{Recording, gone_out}
+use Rattle.spec_run.specs.LogRuns.{RecordsJob, log_meaning}
+use Rattle.spec_run.specs.Meanings.{Meaning}
 use Rattle.spec_sending.specs.declared.plan.SendPlan.{SendPlan}
 use Rattle.spec_sending.specs.Sending.{sent}
 use Rattle.spec_session.specs.Packets.{packets_of}
@@ -29,3 +32,16 @@ early_from r s records = begun_log s (gone_out_in r records)
 abbrev pub counts_from : Recording → SendPlan → List (List ℕ) → Counts
 counts_from r s records =
     record (recording.counts_of r records) { sent = length (sent s (released_in r records)) }
+
+-- what converting does with records
+abbrev pub convert_job : Recording → SendPlan → RecordsJob
+convert_job r s = record {
+  early = early_from r s;
+  whole = log_from r s;
+  counts = counts_from r s;
+  lines = lines.Converting;
+}
+
+-- what it means, where at most `limit` octets are taken
+abbrev pub convert_meaning : Recording → SendPlan → ℕ → Meaning
+convert_meaning r s limit = log_meaning limit (convert_job r s)

@@ -1,3 +1,2 @@
 pub mod Converting
-pub mod Notes
 pub mod Streaming

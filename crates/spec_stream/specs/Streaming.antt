@@ -1,17 +1,21 @@
 -- Streaming a storage file (RFC 4867, 5) as a log of packets (RFC 4571, 2), for a whole input and a
 -- limit of octets.
-use Rattle.std.specs.Prelude.{ℕ, nat_lt, List, [], ◌∷◌, length, map, take, Option, option_map}
+use Rattle.std.specs.Prelude.{ℕ, nat_lt, List, [], ◌∷◌, length, map, take, Option, None, Some, option_map, true, false}
 use Rattle.std.specs.Option.{unwrap_or}
 use Rattle.amr_frame.specs.First.{when, first}
 use Rattle.amr_frame.specs.Frames.{Frame}
 use Rattle.rtp_packet.specs.Written.{written}
 use Rattle.run_report.specs.declared.counts.Counts.{Counts}
+use Rattle.run_report.specs.declared.end.RunEnd.{RunEnd}
+use Rattle.run_report.specs.declared.end.RunEnd.TheVariants as end
+use Rattle.run_report.specs.declared.report.CountLines.TheVariants as lines
 use Rattle.run_report.specs.Lines.{no_counts}
 use Rattle.spec_packet.specs.Log.{log_of}
 use Rattle.spec_packet.specs.Rtp.{RtpPacket}
+use Rattle.spec_run.specs.Meanings.{Meaning}
 use Rattle.spec_sending.specs.declared.plan.SendPlan.{SendPlan}
 use Rattle.spec_sending.specs.Sending.{begun, sent}
-use Rattle.spec_store.specs.declared.refusal.StoreRefusal.{StoreRefusal}
+use Rattle.refusals.specs.declared.store.StoreRefusal.{StoreRefusal}
 use Rattle.spec_store.specs.StorageReading.{blocks_in, cut_refusal, shown_refusal}
 
 -- the log of RTP packets as they are written
@@ -38,24 +42,32 @@ output_of s limit input = sent_log s (file_blocks s (take limit input))
 abbrev pub early_of : SendPlan → List ℕ → List ℕ
 early_of s read = begun_log s (file_blocks s read)
 
--- how streaming ends without a fault
-pub data End : Type 0 where
-  Refused : StoreRefusal → End
-  LimitReached : End
-  Done : End
-
-abbrev refused : Option StoreRefusal → Option End
-refused why = option_map (λ w. Refused w) why
+abbrev refused : Option StoreRefusal → Option RunEnd
+refused why = option_map (λ w. end.File w) why
 
 -- the first that holds: the first `limit` octets show a refusal whatever follows, the input is
 -- longer than the limit, its end cuts the file; or all was read
-abbrev pub end_of : SendPlan → ℕ → List ℕ → End
+abbrev pub end_of : SendPlan → ℕ → List ℕ → RunEnd
 end_of s limit input = let file = take limit input in unwrap_or (first (
     refused (shown_refusal s.profile.codec s.profile.channels file)
-    ∷ when (nat_lt limit (length input)) LimitReached
-    ∷ refused (cut_refusal s.profile.codec s.profile.channels file) ∷ [])) Done
+    ∷ when (nat_lt limit (length input)) end.LimitReached
+    ∷ refused (cut_refusal s.profile.codec s.profile.channels file) ∷ [])) end.Done
 
 -- what a run counts: the blocks that were read, and the packets that were sent
 abbrev pub counts_of : SendPlan → ℕ → List ℕ → Counts
 counts_of s limit input = let b = file_blocks s (take limit input) in
     record no_counts { blocks = length b; sent = length (sent s b) }
+
+-- what streaming means: a plan of sending, and the most octets that are taken of the file
+abbrev pub stream_meaning : SendPlan → ℕ → Meaning
+stream_meaning s limit = record {
+  limit = limit;
+  out = output_of s limit;
+  early = Some (early_of s);
+  end = end_of s limit;
+  counts = counts_of s limit;
+  lines = lines.Sending;
+  reads = true;
+  reads_first = false;
+  lag = None;
+}

@@ -10,7 +10,7 @@ use Rattle.amr_frame.specs.declared.codec.Codec.{Codec}
 use Rattle.amr_frame.specs.declared.codec.Codec.TheVariants.{Amr, AmrWb}
 use Rattle.spec_store.specs.StorageFile.{single, multi}
 use Rattle.spec_store.specs.StorageReading.{Units, channels_told, first_reserved, has_header, header_len, is_reserved_unit, is_unit, unit_place, unit_type, units, units_in, with_octet}
-use Rattle.spec_store.specs.declared.refusal.StoreRefusal.TheVariants as why
+use Rattle.refusals.specs.declared.store.StoreRefusal.TheVariants as why
 use Rattle.store_laws.proofs.Cutting.{state}
 use Rattle.store_laws.proofs.Headers.{Headed, OfMany, OfOne, Spelled, one_channel, several, spelled}
 

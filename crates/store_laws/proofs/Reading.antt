@@ -19,8 +19,8 @@ use Rattle.amr_frame.proofs.FirstLemmas.{first_none, when_none}
 use Rattle.amr_bits.proofs.Lists.{all_append}
 use Rattle.spec_store.specs.StorageGrammar.{IsFile, block_layout, file_layout, header_layout, stored_layout}
 use Rattle.spec_store.specs.StorageReading.{Units, blocks_in, blocks_of, channels_told, cut_refusal, first_reserved, frame_in, frames_in, has_header, has_magic, header_len, is_reserved_unit, is_unit, magic_len, may_have_magic, shown_refusal, store_refusal, unit_place, unit_type, units, units_in}
-use Rattle.spec_store.specs.declared.refusal.StoreRefusal.{StoreRefusal}
-use Rattle.spec_store.specs.declared.refusal.StoreRefusal.TheVariants as why
+use Rattle.refusals.specs.declared.store.StoreRefusal.{StoreRefusal}
+use Rattle.refusals.specs.declared.store.StoreRefusal.TheVariants as why
 use Rattle.store_laws.proofs.Blocked.{are_blocks, blocks_again, joined}
 use Rattle.store_laws.proofs.Cutting.{octets_of, state, units_are, units_hold}
 use Rattle.store_laws.proofs.Headers.{Headed, and_true, laid, laid_of, spelled}

@@ -13,8 +13,8 @@ use Rattle.amr_frame.specs.Frames.{Frame}
 use Rattle.amr_frame.proofs.FirstLemmas.{or_false}
 use Rattle.spec_store.specs.StorageFile.{single, multi}
 use Rattle.spec_store.specs.StorageReading.{Units, begins_with, blocks_in, blocks_of, channels_told, cut_refusal, first_reserved, frame_in, frames_in, has_header, has_header_of, has_magic, header_len, is_front_of, is_reserved_unit, may_have_magic, shown_refusal, store_refusal, unit_place, unit_type, units, units_in}
-use Rattle.spec_store.specs.declared.refusal.StoreRefusal.{StoreRefusal}
-use Rattle.spec_store.specs.declared.refusal.StoreRefusal.TheVariants as why
+use Rattle.refusals.specs.declared.store.StoreRefusal.{StoreRefusal}
+use Rattle.refusals.specs.declared.store.StoreRefusal.TheVariants as why
 use Rattle.store_laws.proofs.Blocked.{block_first}
 use Rattle.store_laws.proofs.Headers.{and_true, not_true, same_bytes}
 use Rattle.store_laws.proofs.Longer.{IsFront, longer, units_longer, reserved_stays}

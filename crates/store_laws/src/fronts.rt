@@ -1,7 +1,7 @@
 ghost use Rattle.amr_frame.specs.Frames.{Frame};
 ghost use Rattle.amr_frame.specs.declared.codec.Codec.{Codec};
 ghost use Rattle.spec_store.specs.StorageReading.{blocks_in, shown_refusal, store_refusal};
-ghost use Rattle.spec_store.specs.declared.refusal.StoreRefusal.{StoreRefusal};
+ghost use Rattle.refusals.specs.declared.store.StoreRefusal.{StoreRefusal};
 ghost use Rattle.std.specs.Prelude.{◌++◌, ◌≡◌, ◌≤◌, List, Some, ℕ};
 
 /// What the front of a file shows is why the whole file is refused, whatever follows the front.

@@ -2,7 +2,7 @@ ghost use Rattle.amr_frame.specs.declared.codec.Codec.TheVariants.{Amr, AmrWb};
 ghost use Rattle.spec_store.specs.StorageFile.{header, storage_file};
 ghost use Rattle.spec_store.specs.StorageGrammar.{IsFileBy, Single};
 ghost use Rattle.spec_store.specs.StorageReading.{blocks_in, store_refusal};
-ghost use Rattle.spec_store.specs.declared.refusal.StoreRefusal.TheVariants as why;
+ghost use Rattle.refusals.specs.declared.store.StoreRefusal.TheVariants as why;
 ghost use Rattle.std.specs.Prelude.{◌++◌, ◌∷◌, ◌≡◌, None, Some, []};
 ghost use Rattle.worked_rows.specs.Words.{magic, two_channels, zeros};
 

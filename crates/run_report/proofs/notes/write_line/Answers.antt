@@ -1,12 +1,11 @@
-use Rattle.std.proofs.Common.{subst, ◌∙◌}
-use Rattle.std.proofs.lemmas.Result.{on_err_weaker}
-use Rattle.run_report.specs.Written.{AppendsFront}
-use Rattle.run_report.proofs.Fronts.{part_is_front}
+use Rattle.std.proofs.Common.{◌∙◌, subst, sym}
+use Rattle.run_report.specs.Written.{Writes}
+use Rattle.run_report.proofs.Fronts.{writes_once}
 use Rattle.run_report.proofs.notes.write_line.Goals as goal
 
-pub returns-clause-part : goal.returns-clause-part
-returns-clause-part g c =
+pub returns-clause-writes : goal.returns-clause-writes
+returns-clause-writes g c =
     let is = c.as_bytes.ensures.value ∙ c.as_str.ensures.value in
-    on_err_weaker c.write_whole.result
-    (λ part. subst (AppendsFront (g.E.Sink.got c.args.notes.now) (g.E.Sink.got c.write_whole.new.sink)) is (part_is_front _ _ _ part))
-    c.write_whole.ensures.part
+    let wrote = c.write_whole.ensures in
+    subst (λ text. Writes g.E.Sink text c.args.notes.now c.write_whole.new.sink c.write_whole.result) is
+    (writes_once g.E.Sink c.as_bytes.result.now c.args.notes.now c.write_whole.new.sink c.write_whole.result wrote.whole wrote.part wrote.empty)

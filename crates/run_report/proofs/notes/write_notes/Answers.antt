@@ -1,20 +1,20 @@
-use Rattle.std.proofs.Common.{subst}
-use Rattle.std.proofs.lemmas.Result.{on_err_weaker}
-use Rattle.run_report.specs.Lines.{end_line}
-use Rattle.run_report.specs.Written.{AppendsFront}
-use Rattle.run_report.proofs.Fronts.{front_of_more, on_err, then_front}
+use Rattle.std.proofs.Common.{subst, sym, Ok, Err}
+use Rattle.run_report.specs.Lines.{count_lines, end_line, told_at}
+use Rattle.run_report.specs.Written.{Writes}
+use Rattle.run_report.proofs.Fronts.{writes_both, writes_first}
 use Rattle.run_report.proofs.notes.write_notes.Goals as goal
 
-pub returns-in_err-write_counts-clause-part : goal.returns-in_err-write_counts-clause-part
-returns-in_err-write_counts-clause-part g c =
-    on_err c.from_residual.result
-    (front_of_more _ _ _ (end_line c.args.report.now.end) c.in_err-write_counts.ensures.part)
+pub returns-in-Ok-clause-writes : goal.returns-in-Ok-clause-writes
+returns-in-Ok-clause-writes g c =
+    let mid = c.write_told.new.notes in
+    let report = c.args.report.now in
+    writes_both g.E.Sink (told_at report.end (count_lines c.args.lines report.counts)) (end_line report.end)
+    c.args.notes.now mid c.write_line.new.notes c.write_line.result
+    c.in-Ok.ensures.writes
+    (subst (λ t. Writes g.E.Sink t mid c.write_line.new.notes c.write_line.result) c.gather_end.ensures c.write_line.ensures.writes)
 
-pub returns-clause-part : goal.returns-clause-part
-returns-clause-part g c =
-    let mid = g.E.Sink.got c.write_counts.new.notes in
-    let after = g.E.Sink.got c.write_line.new.notes in
-    on_err_weaker c.write_line.result
-    (λ part. then_front _ mid _ _ _ c.in_ok-write_counts.ensures.whole
-    (subst (AppendsFront mid after) c.gather_end.ensures part))
-    c.write_line.ensures.part
+pub returns-in-Err-clause-writes : goal.returns-in-Err-clause-writes
+returns-in-Err-clause-writes g c =
+    let report = c.args.report.now in
+    writes_first g.E.Sink (told_at report.end (count_lines c.args.lines report.counts)) (end_line report.end)
+    c.args.notes.now c.write_told.new.notes c.in-Err.failed c.in-Err.ensures.writes

@@ -1,4 +1,4 @@
-use spec_media::FmtpRefusal;
+use crate::media::FmtpRefusal;
 
 /// Why a session description is refused as an offer. F5 is tested first, then F6, and then the
 /// parameters of each offered payload type in order.

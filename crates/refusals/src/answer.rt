@@ -1,3 +1,7 @@
+// Why an offered payload type isn't taken, and the names of the reasons.
+ghost use Rattle.std.specs.Prelude.{◌≡◌, ◌≤◌, length};
+ghost use Rattle.refusals.specs.Names.{why_name};
+
 /// Why an offered payload type isn't taken, in the order in which the reasons are tested.
 #[derive(Clone, Copy, Debug, Default, PartialEq, Eq)]
 pub enum Why {
@@ -14,6 +18,23 @@ pub enum Why {
     Interleaving,
     /// Its mode set isn't within the wanted one.
     Modes,
+}
+
+impl Why {
+    /// The name of a reason, of at most 12 octets.
+    pub fn name(self) -> &'static str
+        ensures name { result.now ≡ why_name self }
+        ensures short { length result.now ≤ 12 }
+    {
+        match self {
+            Why::Codec => "codec",
+            Why::Channels => "channels",
+            Why::Crc => "crc",
+            Why::Sorting => "sorting",
+            Why::Interleaving => "interleaving",
+            Why::Modes => "modes",
+        }
+    }
 }
 
 /// An offered payload type that isn't taken.

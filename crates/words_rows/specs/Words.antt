@@ -1,0 +1,103 @@
+-- The words of the worked examples of command lines.
+use Rattle.std.specs.Prelude.{ℕ, Bool, false, true, nat_eq, List, [], ◌∷◌, Option, None, Some}
+use Rattle.std.specs.List.{slice_split}
+use Rattle.amr_frame.specs.declared.codec.Codec.TheVariants.{Amr, AmrWb}
+use Rattle.amr_frame.specs.declared.profile.Profile.{Profile}
+use Rattle.spec_modes.specs.Desk.{DeskPlan}
+use Rattle.spec_offer.specs.Answering.{Answering}
+use Rattle.spec_record.specs.Recording.{Recording}
+use Rattle.spec_run.specs.Meanings.{Meaning}
+use Rattle.spec_sending.specs.declared.plan.SendPlan.{SendPlan}
+use Rattle.spec_session.specs.Session.{rules_of}
+use Rattle.spec_words.specs.Jobs.{Job, job_of}
+
+-- what the words of a line ask for, which stand between single spaces
+abbrev pub asks : List ℕ → Option Job
+asks line = job_of (slice_split (λ o. nat_eq o 32) line)
+
+-- the most octets of a log or a file
+abbrev pub most : ℕ
+most = 1099511627776
+
+-- AMR, one channel, bandwidth-efficient, up to 64 blocks in a payload
+abbrev pub plain : Profile
+plain = record {
+  codec = Amr;
+  channels = 1;
+  octet_aligned = false;
+  crc = false;
+  sorting = false;
+  interleaving = None;
+  max_blocks = 64;
+}
+
+-- the same with interleaving groups of up to so many blocks
+abbrev pub interleaved : ℕ → Profile
+interleaved group = record plain { octet_aligned = true; interleaving = Some group }
+
+-- a recording of any payload type with this window
+abbrev pub recorded : Profile → ℕ → Recording
+recorded p window = record { profile = p; asked = None; rules = rules_of p window 45000 }
+
+-- blocks sent one to a packet
+abbrev pub sent : SendPlan
+sent = record {
+  profile = plain;
+  blocks = 1;
+  length = 1;
+  repeat = 0;
+  skip_empty = false;
+  cmr = 15;
+  pt = 96;
+  ssrc = 0;
+  seq = 0;
+  ts = 0;
+}
+
+-- the format of the long line of `convert`: what it receives, and what it sends
+abbrev pub wide_received : Profile
+wide_received = record {
+  codec = AmrWb;
+  channels = 2;
+  octet_aligned = true;
+  crc = true;
+  sorting = false;
+  interleaving = None;
+  max_blocks = 12;
+}
+
+abbrev pub wide_sent : SendPlan
+wide_sent = record {
+  profile = record wide_received { crc = false; interleaving = Some 8; max_blocks = 64 };
+  blocks = 2;
+  length = 4;
+  repeat = 0;
+  skip_empty = true;
+  cmr = 8;
+  pt = 98;
+  ssrc = 1;
+  seq = 2;
+  ts = 3;
+}
+
+-- a desk of these modes that starts at one of them
+abbrev pub desk : List ℕ → ℕ → DeskPlan
+desk modes start =
+    record { codec = Amr; modes = modes; neighbor = false; period = 1; start = start }
+
+abbrev pub eight : List ℕ
+eight = 0 ∷ 1 ∷ 2 ∷ 3 ∷ 4 ∷ 5 ∷ 6 ∷ 7 ∷ []
+
+-- an answer that takes these modes, anything else, and names port 9
+abbrev pub wants : List ℕ → Answering
+wants modes = record {
+  wanted = record {
+    codec = Amr;
+    channels = 1;
+    modes = modes;
+    crc = true;
+    sorting = true;
+    interleaving = 65535;
+  };
+  port = 9;
+}
