@@ -9,3 +9,4 @@ pub mod Spelled
 pub mod Respelled
 pub mod Marked
 pub mod Grammar
+pub mod LogFronts

@@ -6,6 +6,9 @@ pub mod Unframed
 pub mod View
 pub mod Written
 pub mod Fields
+pub mod LogSinkLaws
+pub mod LogWritten
+pub mod PacketSteps
 pub use Rattle.spec_packet.specs.Log
 pub use Rattle.spec_packet.specs.Rtp
 pub use Rattle.spec_packet.specs.RtpReading

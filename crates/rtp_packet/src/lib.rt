@@ -7,7 +7,9 @@ mod fit;
 mod header;
 mod laws;
 mod log_reader;
+mod log_writer;
 mod next;
+mod packet_sink;
 mod put;
 mod read;
 mod view;
@@ -18,7 +20,9 @@ pub use laws::{
     octets_tell_one_answer, reads_its_grammar, reads_what_is_written, writes_what_is_read,
 };
 pub use log_reader::LogReader;
+pub use log_writer::{LogWriter, log_head};
 pub use next::Next;
+pub use packet_sink::PacketSink;
 pub use read::read_rtp;
 pub use spec_packet::RtpRefusal;
 pub use view::RtpView;
@@ -26,5 +30,7 @@ pub use write::{size_rtp, write_rtp};
 
 #[cfg(test)]
 mod log_tests;
+#[cfg(test)]
+mod log_writer_tests;
 #[cfg(test)]
 mod rtp_tests;
