@@ -25,6 +25,6 @@ pub use view::RtpView;
 pub use write::{size_rtp, write_rtp};
 
 #[cfg(test)]
-mod log_tests;
+mod reader_tests;
 #[cfg(test)]
 mod rtp_tests;
