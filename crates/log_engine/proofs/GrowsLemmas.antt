@@ -77,3 +77,15 @@ same_through k law s0 s1 s2 p q = record {
   grows = Grows-through (k.got s0.output.now) (k.got s1.output.now) (k.got s2.output.now) p.grows
       q.grows;
 }
+
+-- what is the same once a handler put something out and all was written
+pub flushed_same : {B : Type 0} (k : sink.Ghosts B)
+    (law : (a b c : B) → k.same a b → k.same b c → k.same a c)
+    (s0 s1 s2 : GatherSink B)
+    → (s1.output.ghost_name ≡ s0.output.ghost_name) × k.same s0.output.now s1.output.now
+    × Grows (k.got s0.output.now) (k.got s1.output.now)
+    → k.beside s1.output.now ≡ k.beside s0.output.now → SameSink k s1 s2 → SameSink k s0 s2
+flushed_same k law s0 s1 s2 same beside flushed =
+    let put : SameSink k s0 s1 =
+    record { reference = same.0; same = same.1; beside = beside; grows = same.2 } in
+    same_through k law s0 s1 s2 put flushed

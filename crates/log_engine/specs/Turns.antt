@@ -1,6 +1,7 @@
 -- Where a run stands, and what came of a turn of it. It is ours.
-use Rattle.std.specs.Prelude.{◌≡◌, ℕ, ◌+◌, ◌≤◌, ◌<◌, ◌^◌, List, [], ◌∷◌, ◌++◌, length, Option, None, Some}
+use Rattle.std.specs.Prelude.{◌≡◌, ℕ, ◌+◌, ◌≤◌, ◌<◌, ◌^◌, List, [], ◌∷◌, ◌++◌, length, Option, Result, None, Some}
 use Rattle.std.specs.Io.KnownBytes.{Consumes, append_known}
+use Rattle.amr_io.specs.Fault.{HasCause}
 use Rattle.amr_io.specs.declared.sink.Sink as sink
 use Rattle.amr_io.specs.declared.source.Source as source
 use Rattle.log_engine.specs.Puts.{Puts, PutsPart}
@@ -8,7 +9,7 @@ use Rattle.log_engine.specs.Run.{Why}
 use Rattle.log_engine.specs.Tray.{Grows}
 use Rattle.log_engine.specs.declared.gather_sink.GatherSink.{GatherSink}
 use Rattle.log_engine.specs.declared.handler.RecordHandler as handler
-use Rattle.rtp_packet.specs.Reading.{IsOpen, limit_of, rest, taken_of}
+use Rattle.rtp_packet.specs.Reading.{IsFresh, IsOpen, limit_of, rest, taken_of}
 use Rattle.rtp_packet.specs.Record.{IsWhole}
 use Rattle.rtp_packet.specs.declared.log_reader.LogReader.{LogReader}
 use Rattle.run_report.specs.declared.end.RunEnd.{RunEnd}
@@ -42,6 +43,25 @@ pub record SameSink {B : Type 0} (k : sink.Ghosts B) (old new : GatherSink B) : 
   pub same : k.same old.output.now new.output.now
   pub beside : k.beside new.output.now ≡ k.beside old.output.now
   pub grows : Grows (k.got old.output.now) (k.got new.output.now)
+
+-- the handler's job stays, and the sink is over the same output
+pub record Steady {H B : Type 0} (h : handler.Ghosts H) (k : sink.Ghosts B) (by by' : H)
+    (old new : GatherSink B) : Type 0 where
+  pub job : h.job by' ≡ h.job by
+  pub same : SameSink k old new
+
+-- the same, and it failed only where the output's faults rose
+pub record HandlerStep {H B X E : Type 0} (h : handler.Ghosts H) (k : sink.Ghosts B) (by by' : H)
+    (old new : GatherSink B) (result : Result X E) : Type 0 where
+  pub steady : Steady h k by by' old new
+  pub cause : HasCause (k.faults old.output.now) (k.faults new.output.now) result
+
+-- a run may begin: the handler hasn't begun, nothing was read, and nothing waits
+pub record AtStart {H A B : Type 0} (h : handler.Ghosts H) (first : State H A B) : Type 0 where
+  pub handler : h.fresh first.handler
+  pub fresh : IsFresh first.reader
+  pub limit : limit_of first.reader ≤ 2 ^ 40
+  pub empty : first.sink.gather.now.waiting ≡ []
 
 -- which count of faults rose: none where a record was handled
 abbrev pub TurnFaults : Option RunEnd → Flow → Flow → Type 0

@@ -1,7 +1,7 @@
 // Octets that wait to be written.
 ghost use Rattle.std.specs.Prelude.{◌≡◌, ℕ, ◌+◌, ◌-◌, ◌≤◌, ◌<◌, ◌++◌, [], List, length, drop, IfOk, OnOk, slice_range};
 ghost use Rattle.std.specs.Io.KnownBytes.{Keeps, append_known};
-ghost use Rattle.amr_io.specs.Fault.{HasCause};
+ghost use Rattle.amr_io.specs.Steps.{SinkStep};
 ghost use Rattle.log_engine.specs.Tray.{Tray, Grows};
 
 use amr_io::{Failed, Sink};
@@ -115,10 +115,8 @@ impl Gather {
             (append_known (O.got output.new) self.new.waiting) }
         ensures empty { OnOk result ((self.new.waiting ≡ []) × (self.new.used ≡ 0)) }
         ensures room { self.new.room ≡ self.old.room }
-        ensures cause { HasCause (O.faults output.old) (O.faults output.new) result }
-        ensures beside { O.beside output.new ≡ O.beside output.old }
         ensures grows { Grows (O.got output.old) (O.got output.new) }
-        ensures same { O.same output.old output.new }
+        ensures step { SinkStep O.Sink output.old output.new result }
     {
         'sending: while !self.waiting().is_empty() {
             let count = output.write(self.waiting())?;

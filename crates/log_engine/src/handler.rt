@@ -1,7 +1,7 @@
 // What a command does with the records of a log.
 ghost use Rattle.std.specs.Prelude.{◌≡◌, ◌+◌, ◌<◌, ◌^◌, ℕ, List, [], ◌∷◌, ◌++◌, OnOk, OnErr};
 ghost use Rattle.std.specs.Io.KnownBytes.{Appends};
-ghost use Rattle.amr_io.specs.Fault.{HasCause};
+ghost use Rattle.amr_io.specs.Steps.{SinkStep};
 ghost use Rattle.log_engine.specs.Puts.{Puts, PutsPart};
 ghost use Rattle.run_report.specs.declared.counts.Counts.{Counts};
 ghost use Rattle.spec_run.specs.LogRuns.{RecordsJob};
@@ -44,9 +44,7 @@ pub trait RecordHandler {
             (PutsPart (O.got output.old) (O.got output.new) [] ((job self.old).early [])) }
         ensures kept { job self.new ≡ job self.old }
 
-        ensures cause { HasCause (O.faults output.old) (O.faults output.new) result }
-        ensures beside { O.beside output.new ≡ O.beside output.old }
-        ensures same { O.same output.old output.new };
+        ensures step { SinkStep O.Sink output.old output.new result };
 
     /// Handles the next record, of at most 2^40, and puts out what it brings.
     ///
@@ -64,9 +62,7 @@ pub trait RecordHandler {
             ((job self.old).early hs) ((job self.old).early (hs ++ packet.now ∷ []))) }
         ensures kept { job self.new ≡ job self.old }
 
-        ensures cause { HasCause (O.faults output.old) (O.faults output.new) result }
-        ensures beside { O.beside output.new ≡ O.beside output.old }
-        ensures same { O.same output.old output.new };
+        ensures step { SinkStep O.Sink output.old output.new result };
 
     /// Puts out the rest, after the last record. The counts are then those of the records.
     ///
@@ -82,9 +78,7 @@ pub trait RecordHandler {
             ((job self.old).early hs) ((job self.old).whole hs)) }
         ensures kept { job self.new ≡ job self.old }
 
-        ensures cause { HasCause (O.faults output.old) (O.faults output.new) result }
-        ensures beside { O.beside output.new ≡ O.beside output.old }
-        ensures same { O.same output.old output.new };
+        ensures step { SinkStep O.Sink output.old output.new result };
 
     /// More records put out more behind what was put out.
     ghost early_grows: { (s : Self) (hs more : List (List ℕ))

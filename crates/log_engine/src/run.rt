@@ -1,7 +1,7 @@
 // A run over the records of a log.
 ghost use Rattle.std.specs.Prelude.{◌≡◌, ◌≢◌, ◌^◌, ◌≤◌, []};
 ghost use Rattle.log_engine.specs.Progress.{After};
-ghost use Rattle.log_engine.specs.Turns.{SameSink, sent, state};
+ghost use Rattle.log_engine.specs.Turns.{AtStart, SameSink, Steady, sent, state};
 ghost use Rattle.rtp_packet.specs.Reading.{IsFresh, limit_of};
 ghost use Rattle.spec_run.specs.Flows.{FaultsOf, read_from};
 ghost use Rattle.spec_run.specs.LogRuns.{log_meaning};
@@ -21,19 +21,16 @@ fn handle_all<I: Source, O: Sink, H: RecordHandler>(
     input: &mut I,
     sink: &mut GatherSink<'_, O>,
 ) -> RunEnd
-    requires handler { H.fresh handler.old }
-    requires fresh { IsFresh reader.old }
-    requires limit { limit_of reader.old ≤ 2 ^ 40 }
-    requires empty { sink.old.gather.now.waiting ≡ [] }
+    requires start { AtStart H.RecordHandler
+        (state handler.old reader.old input.old sink.old) }
 
     ensures after { After H.RecordHandler I.Source O.Sink
         (state handler.old reader.old input.old sink.old)
         (state handler.new reader.new input.new sink.new) result }
     ensures ready { result ≢ RunEnd.WriteFault → H.ready handler.new }
-    ensures kept { H.job handler.new ≡ H.job handler.old }
+    ensures steady { Steady H.RecordHandler O.Sink handler.old handler.new sink.old sink.new }
     ensures faults { FaultsOf result (read_from I.Source input.old input.new)
         (sent O.Sink sink.old sink.new) }
-    ensures same { SameSink O.Sink sink.old sink.new }
 {
     if let Err(_) = begin(handler, sink) {
         return RunEnd::WriteFault;
@@ -48,12 +45,14 @@ fn handle_all<I: Source, O: Sink, H: RecordHandler>(
     }
 }
 
-/// Reads the records of a log to the end, at most so many octets as `reader` allows, and puts out what `handler` makes of them.
+/// Reads the records of a log to the end, at most so many octets as `reader` allows, and puts out
+/// what `handler` makes of them.
 ///
-/// What waits in `sink` is written before each read, so that at a fault all is out that belongs to the octets read before those
-/// that the reader holds. No memory is taken. `ReadFault` comes only where the input's faults rose, `WriteFault` only where the
-/// output's did, and the run ends there. `LimitReached` comes where the log has more octets than the limit, else `LogCut` where
-/// it ends inside a record, else `Done`: the handler has then ended, and counted all.
+/// What waits in `sink` is written before each read, so that at a fault all is out that belongs to
+/// the octets read before those that the reader holds. No memory is taken. `ReadFault` comes only
+/// where the input's faults rose, `WriteFault` only where the output's did, and the run ends there.
+/// `LimitReached` comes where the log has more octets than the limit, else `LogCut` where it ends
+/// inside a record, else `Done`: the handler has then ended, and counted all.
 pub fn run_records<I: Source, O: Sink, H: RecordHandler>(
     handler: &mut H,
     reader: &mut LogReader,

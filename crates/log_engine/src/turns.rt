@@ -3,7 +3,7 @@ ghost use Rattle.std.specs.Prelude.{◌≡◌, ◌≢◌, ℕ, ◌+◌, ◌^◌,
 ghost use Rattle.std.specs.Io.KnownBytes.{Appends, Keeps};
 ghost use Rattle.amr_io.specs.Fault.{HasCause};
 ghost use Rattle.log_engine.specs.Puts.{Puts, PutsPart};
-ghost use Rattle.log_engine.specs.Turns.{SameSink, TurnFaults, Turned, logical, sent, state};
+ghost use Rattle.log_engine.specs.Turns.{HandlerStep, SameSink, Steady, TurnFaults, Turned, logical, sent, state};
 ghost use Rattle.rtp_packet.specs.Reading.{IsOpen, rest};
 ghost use Rattle.rtp_packet.specs.Record.{IsWhole};
 ghost use Rattle.spec_run.specs.Flows.{read_from};
@@ -28,9 +28,8 @@ pub(crate) fn begin<O: Sink, H: RecordHandler>(
     ensures empty { OnOk result (sink.new.gather.now.waiting ≡ []) }
     ensures failed { OnErr result (PutsPart (logical O.got sink.old) (logical O.got sink.new) []
         ((H.job handler.old).early [])) }
-    ensures kept { H.job handler.new ≡ H.job handler.old }
-    ensures cause { HasCause (O.faults sink.old.output.now) (O.faults sink.new.output.now) result }
-    ensures same { SameSink O.Sink sink.old sink.new }
+    ensures step { HandlerStep H.RecordHandler O.Sink handler.old handler.new sink.old sink.new
+        result }
 {
     handler.begin(sink)?;
     sink.flush()
@@ -68,10 +67,9 @@ pub(crate) fn handle_next<I: Source, O: Sink, H: RecordHandler>(
     ensures turned { Turned H.RecordHandler I.Source O.Sink
         (state handler.old reader.old input.old sink.old)
         (state handler.new reader.new input.new sink.new) result }
-    ensures kept { H.job handler.new ≡ H.job handler.old }
+    ensures steady { Steady H.RecordHandler O.Sink handler.old handler.new sink.old sink.new }
     ensures faults { TurnFaults result (read_from I.Source input.old input.new)
         (sent O.Sink sink.old sink.new) }
-    ensures same { SameSink O.Sink sink.old sink.new }
 {
     match reader.next(input) {
         Ok(Next::Packet(packet)) => match handler.handle(packet, sink) {
@@ -104,9 +102,8 @@ pub(crate) fn close<O: Sink, H: RecordHandler>(
     ensures failed { OnErr result ((hs : List (List ℕ)) → H.stands handler.old hs
         → PutsPart (logical O.got sink.old) (logical O.got sink.new)
         ((H.job handler.old).early hs) ((H.job handler.old).whole hs)) }
-    ensures kept { H.job handler.new ≡ H.job handler.old }
-    ensures cause { HasCause (O.faults sink.old.output.now) (O.faults sink.new.output.now) result }
-    ensures same { SameSink O.Sink sink.old sink.new }
+    ensures step { HandlerStep H.RecordHandler O.Sink handler.old handler.new sink.old sink.new
+        result }
 {
     handler.end(sink)?;
     sink.flush()

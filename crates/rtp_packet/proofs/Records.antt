@@ -1,8 +1,6 @@
--- Records at the front of a log, and what a reader of them took.
-use Rattle.std.proofs.Common.{ℕ, ◌<◌, ◌≤◌, List, [], ◌∷◌, length, arith}
+-- Records at the front of a log.
+use Rattle.std.proofs.Common.{ℕ, ◌<◌, List, [], ◌∷◌, length, arith}
 use Rattle.spec_packet.specs.Log.{IsPartial}
-use Rattle.rtp_packet.specs.declared.log_reader.LogReader.{LogReader}
-use Rattle.rtp_packet.specs.Reading.{taken_of, limit_of}
 use Rattle.rtp_packet.specs.Record.{need, IsWhole}
 
 -- less than a record tells more octets than there are
@@ -19,7 +17,3 @@ needs_partial (a ∷ b ∷ xs) few = omega (arith, few)
 -- less than a whole record isn't whole
 pub partial_not_whole : (octets : List ℕ) → IsPartial octets → IsWhole octets → ⊥
 partial_not_whole octets part whole = omega (arith, partial_needs octets part, whole)
-
--- a reader takes at most its limit
-pub taken_within : (r : LogReader) → taken_of r ≤ limit_of r
-taken_within r = r.records.limited

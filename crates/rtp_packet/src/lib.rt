@@ -29,7 +29,7 @@ pub use view::RtpView;
 pub use write::{size_rtp, write_rtp};
 
 #[cfg(test)]
-mod log_tests;
+mod reader_tests;
 #[cfg(test)]
 mod log_writer_tests;
 #[cfg(test)]

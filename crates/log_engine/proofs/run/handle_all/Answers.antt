@@ -10,8 +10,8 @@ use Rattle.log_engine.proofs.run.handle_all.Goals as goal
 pub returns-in-Err-clause-after : goal.returns-in-Err-clause-after
 returns-in-Err-clause-after g c =
     let first = state c.args.handler.now c.args.reader.now c.args.input.now c.args.sink.now in
-    begin_broken g.H.RecordHandler g.I.Source g.O.Sink first c.begin.new.sink c.requires.empty
-    c.in-Err.ensures.failed c.begin.ensures.same.grows
+    begin_broken g.H.RecordHandler g.I.Source g.O.Sink first c.begin.new.sink c.requires.start.empty
+    c.in-Err.ensures.failed c.begin.ensures.step.steady.same.grows
 
 pub returns-in-Err-make_way-clause-after : goal.returns-in-Err-make_way-clause-after
 returns-in-Err-make_way-clause-after g c =
@@ -25,20 +25,20 @@ pub records-init : goal.records-init
 records-init g c =
     let first = state c.args.handler.now c.args.reader.now c.args.input.now c.args.sink.now in
     let began = c.in_default.ensures in
-    let fresh = c.requires.fresh in
+    let fresh = c.requires.start.fresh in
     let none = ap length fresh.2 in
     record {
       unended = fresh.0;
       limit = refl;
       within = omega (arith, fresh.3);
-      job = began.kept;
+      job = began.step.steady.job;
       ready = began.ready.0;
       counted = omega (arith, began.ready.1, none);
       calm_in = refl;
-      calm_out = began.cause;
-      same = began.same;
+      calm_out = began.step.cause;
+      same = began.step.steady.same;
       under = begun g.H.RecordHandler g.I.Source g.O.Sink first c.begin.new.handler c.begin.new.sink
-          c.requires.empty began.empty fresh.2 fresh.3 began.done.0 began.done.1;
+          c.requires.start.empty began.empty fresh.2 fresh.3 began.done.0 began.done.1;
     }
 
 pub records-preserved : goal.records-preserved
@@ -63,14 +63,14 @@ records-preserved g c =
       unended = handled.brought.unended;
       limit = went.limit ∙ kept.limit;
       within = went.within;
-      job = turn.kept ∙ kept.job;
+      job = turn.steady.job ∙ kept.job;
       ready = turn.ready (λ e. absurd cc);
       counted = omega (arith, went.taken, size, turn.counted refl, kept.counted);
       calm_in = turn.faults.0 ∙ kept.calm_in;
       calm_out = turn.faults.1 ∙ way.cause ∙ kept.calm_out;
-      same = same c.args.sink.now paused.sink next.sink before turn.same;
+      same = same c.args.sink.now paused.sink next.sink before turn.steady.same;
       under = handled_turn g.H.RecordHandler g.I.Source g.O.Sink first paused next ready kept.job
-          kept.limit turn.same.grows handled;
+          kept.limit turn.steady.same.grows handled;
     }
 
 pub records-smaller : goal.records-smaller
@@ -81,10 +81,12 @@ records-smaller g c =
     handled.more handled.brought.joins in
     omega (arith, went.taken, went.limit, went.within, size)
 
-pub returns-in-Err-make_way-clause-same : goal.returns-in-Err-make_way-clause-same
-returns-in-Err-make_way-clause-same g c =
-    same_through g.O.Sink g.met.O.Sink.transitive c.args.sink.now c.records.sink c.make_way.new.sink
-    c.records.invariant.same c.make_way.ensures.same
+pub returns-in-Err-make_way-clause-steady : goal.returns-in-Err-make_way-clause-steady
+returns-in-Err-make_way-clause-steady g c = record {
+  job = c.records.invariant.job;
+  same = same_through g.O.Sink g.met.O.Sink.transitive c.args.sink.now c.records.sink c.make_way.new.sink
+      c.records.invariant.same c.make_way.ensures.same;
+}
 
 pub returns-in-Some-clause-after : goal.returns-in-Some-clause-after
 returns-in-Some-clause-after g c =
@@ -100,11 +102,14 @@ returns-in-Some-clause-after g c =
     kept.under way.kept way.same.grows way.ready in
     after_turn g.H.RecordHandler g.I.Source g.O.Sink first paused next c.in-Some.end
     (g.met.H.RecordHandler.early_grows c.args.handler.now) ready kept.job kept.limit
-    turn.same.grows turn.turned
+    turn.steady.same.grows turn.turned
 
-pub returns-in-Some-clause-same : goal.returns-in-Some-clause-same
-returns-in-Some-clause-same g c =
+pub returns-in-Some-clause-steady : goal.returns-in-Some-clause-steady
+returns-in-Some-clause-steady g c =
     let same = same_through g.O.Sink g.met.O.Sink.transitive c.args.sink.now in
-    same c.make_way.new.sink c.handle_next.new.sink
-    (same c.records.sink c.make_way.new.sink c.records.invariant.same c.make_way.ensures.same)
-    c.in-Some.ensures.same
+    let turn = c.in-Some.ensures.steady in record {
+      job = turn.job ∙ c.records.invariant.job;
+      same = same c.make_way.new.sink c.handle_next.new.sink
+          (same c.records.sink c.make_way.new.sink c.records.invariant.same c.make_way.ensures.same)
+          turn.same;
+    }

@@ -36,9 +36,9 @@ returns-in-Ok-clause-works g c =
     let halt = halted_of g.H.RecordHandler g.I.Source g.O.Sink first now how ran.after
     c.in_default.not-WriteFault in
     let put = closed_put g.H.RecordHandler g.I.Source g.O.Sink first now how c.close.new.handler
-    c.close.new.sink halt ran.kept closed.empty closed.done in
+    c.close.new.sink halt ran.steady.job closed.empty closed.done in
     let faults = faults_on how input input output (sent g.O.Sink first.sink c.close.new.sink)
-    (record { before = refl; after = refl }) (record { before = refl; after = closed.cause })
+    (record { before = refl; after = refl }) (record { before = refl; after = closed.step.cause })
     ran.faults in
     finished_works (g.H.RecordHandler.job c.args.handler.now) (limit_of c.args.reader.now) _
     halt.packets (rest now.reader) halt.extra halt.stopped c.in_default.not-ReadFault
@@ -67,20 +67,20 @@ returns-in-Err-clause-works g c =
     let halt = halted_of g.H.RecordHandler g.I.Source g.O.Sink first now how ran.after
     never_written in
     let broke = closed_broken g.H.RecordHandler g.I.Source g.O.Sink first now how c.close.new.sink
-    whole_grows halt never_read ran.kept c.close.ensures.same.grows c.in-Err.ensures.failed in
+    whole_grows halt never_read ran.steady.job c.close.ensures.step.steady.same.grows c.in-Err.ensures.failed in
     let calm = calm_at how input output never_read never_written ran.faults in
     let failed = failed_on (sent g.O.Sink now.sink c.close.new.sink)
     (sent g.O.Sink first.sink c.close.new.sink)
-    (record { before = calm.1; after = refl }) c.in-Err.ensures.cause in
+    (record { before = calm.1; after = refl }) c.in-Err.ensures.step.cause in
     write_works (g.H.RecordHandler.job c.args.handler.now) (limit_of c.args.reader.now) _
     (g.met.H.RecordHandler.early_grows c.args.handler.now) whole_grows refl broke (calm.0, failed)
 
 pub returns-in-Ok-clause-same : goal.returns-in-Ok-clause-same
 returns-in-Ok-clause-same g c =
     same_through g.O.Sink g.met.O.Sink.transitive c.args.sink.now c.handle_all.new.sink
-    c.close.new.sink c.handle_all.ensures.same c.close.ensures.same
+    c.close.new.sink c.handle_all.ensures.steady.same c.close.ensures.step.steady.same
 
 pub returns-in-Err-clause-same : goal.returns-in-Err-clause-same
 returns-in-Err-clause-same g c =
     same_through g.O.Sink g.met.O.Sink.transitive c.args.sink.now c.handle_all.new.sink
-    c.close.new.sink c.handle_all.ensures.same c.close.ensures.same
+    c.close.new.sink c.handle_all.ensures.steady.same c.close.ensures.step.steady.same

@@ -1,5 +1,5 @@
 use Rattle.rtp_packet.specs.Reading.{IsUsable}
-use Rattle.rtp_packet.proofs.log_tests.five_answers.Given as goal
+use Rattle.rtp_packet.proofs.reader_tests.five_answers.Given as goal
 
 abbrev pub invariant-loop-i : goal.invariant-loop-i
 invariant-loop-i l = IsUsable l.reader
