@@ -26,14 +26,14 @@ horizon_stays rules h more z e =
     let begun = still_begun rules (accepted rules h) on.0 z e in
     (begun.0, ap (horizon_of rules) on.1 ∙ begun.1)
 
-gone_by : (rules : Rules) (h more : List Packet) (o : Option ℤ) → horizon rules h ≡ o → Front (up_to_window rules h o) (gone_out rules (h ++ more))
+pub gone_by : (rules : Rules) (h more : List Packet) (o : Option ℤ) → horizon rules h ≡ o → Front (up_to_window rules h o) (gone_out rules (h ++ more))
 gone_by rules h more None e = (gone_out rules (h ++ more), refl)
 gone_by rules h more (Some z) e =
     let y = horizon_stays rules h more z e in
     let grown = released_grows rules h more z y.0 e y.1 in
     (grown.0, ap (up_to_window rules (h ++ more)) y.1 ∙ grown.1)
 
-released_by : (rules : Rules) (h more : List Packet) (o : Option ℤ) → horizon rules h ≡ o → Front (up_to_window rules h o) (released rules (h ++ more))
+pub released_by : (rules : Rules) (h more : List Packet) (o : Option ℤ) → horizon rules h ≡ o → Front (up_to_window rules h o) (released rules (h ++ more))
 released_by rules h more None e = (released rules (h ++ more), refl)
 released_by rules h more (Some z) e = released_stays rules h more z e
 
@@ -44,7 +44,7 @@ stored_front r blocks all f =
       ap (storage_file r.rules.codec r.rules.channels) f.1 ∙ ap (λ t. head ++ t) (flat_map-append block_text blocks f.0) ∙ sym (append_assoc head (flat_map block_text blocks) (flat_map block_text f.0)),
     )
 
-more_packets : (r : Recording) (records more : List (List ℕ)) → packets_of r.profile r.asked (records ++ more) ≡ packets_of r.profile r.asked records ++ packets_of r.profile r.asked more
+pub more_packets : (r : Recording) (records more : List (List ℕ)) → packets_of r.profile r.asked (records ++ more) ≡ packets_of r.profile r.asked records ++ packets_of r.profile r.asked more
 more_packets r records more = filter_map-append (packet_of r.profile r.asked) records more
 
 pub early_front : (r : Recording) (records more : List (List ℕ)) → Front (early_of r records) (early_of r (records ++ more))
