@@ -1,7 +1,7 @@
 -- The first rule that a bandwidth-efficient payload breaks, by the table that is read of it.
 use Rattle.std.proofs.Common.{◌≡◌, ℕ, ◌+◌, ◌*◌, ◌%◌, ◌<◌, ◌≤◌, Bool, true, false, eqb, ltb, List, [], ◌∷◌, length, map, refl, ap, ◌∙◌, sym, subst, arith, Option, Some, None}
 use Rattle.std.specs.Prelude.{sum, ◌⊎◌}
-use Rattle.std.proofs.lemmas.Bool.{ne_eqb, le-ltb}
+use Rattle.std.proofs.lemmas.Bool.{eqb-false, ne_eqb, le-ltb}
 use Rattle.std.proofs.lemmas.List.{length-map}
 use Rattle.amr_bits.specs.Bits.{bits_at, octets_for}
 use Rattle.amr_frame.specs.declared.codec.Codec.{Codec}
@@ -13,11 +13,14 @@ use Rattle.amr_be.specs.Needs.{need_by}
 use Rattle.amr_toc.specs.declared.entry.Entry.{Entry}
 use Rattle.amr_toc.specs.Fitting.{misfit}
 use Rattle.amr_toc.specs.Lists.{types_of, toc_at}
+use Rattle.amr_toc.specs.Payloads.{IsPacked}
 use Rattle.amr_toc.specs.Table.{table_of, table_refusal, fault_of, last_of}
 use Rattle.amr_toc.specs.Told.{IsAccepted, IsRefused}
 use Rattle.amr_toc.proofs.InPayload.{last_same, last_fault, table_same}
 use Rattle.amr_toc.proofs.Shown.{types_same}
+use Rattle.amr_toc.proofs.Telling.{exactly}
 use Rattle.amr_frame.proofs.FirstLemmas.{first_none}
+use Rattle.payload_laws.proofs.Rules.{above}
 use Rattle.payload_laws.proofs.Formats.{plain, plain_of, plain_is}
 use Rattle.spec_payload.specs.declared.refusal.PayloadRefusal.{PayloadRefusal}
 use Rattle.spec_payload.specs.declared.refusal.PayloadRefusal.TheVariants as why
@@ -43,7 +46,7 @@ at_none e d l x z y o t h f g k =
     rw (h, a.0, b.0, g, k) refl
 
 -- the rules of a payload, of which the first n bits behind the header are read for the table
-pub record Rules (p : Profile) (octets : List ℕ) (n : ℕ) : Type 0 where
+record Rules (p : Profile) (octets : List ℕ) (n : ℕ) : Type 0 where
   pub table : (r : PayloadRefusal) → 0 < length octets → table_refusal p 6 (bits_at octets 4 n) ≡ Some r → IsRefused p octets r
   pub listed : table_refusal p 6 (bits_at octets 4 n) ≡ None → table_of p 6 (bits_at octets 4 n) ≡ toc_at p octets
   pub unfit : (r : PayloadRefusal) → 0 < length octets → table_refusal p 6 (bits_at octets 4 n) ≡ None → misfit (need p (types p octets)) (length octets) ≡ Some r → IsRefused p octets r
@@ -85,6 +88,24 @@ module _ (codec : Codec) (c m : ℕ) (octets : List ℕ) (n : ℕ) (fits : 4 + n
       }
 
 -- the rules of each bandwidth-efficient format
-pub rules : (p : Profile) (octets : List ℕ) (n : ℕ) → IsValid p → p.octet_aligned ≡ false → 4 + n ≤ 8 * length octets → (4 + n ≡ 8 * length octets) ⊎ (3080 ≤ n) → p.max_blocks * p.channels ≤ 384 → Rules p octets n
+rules : (p : Profile) (octets : List ℕ) (n : ℕ) → IsValid p → p.octet_aligned ≡ false → 4 + n ≤ 8 * length octets → (4 + n ≡ 8 * length octets) ⊎ (3080 ≤ n) → p.max_blocks * p.channels ≤ 384 → Rules p octets n
 rules p octets n valid packed fits enough few =
     subst (λ q. Rules q octets n) (plain_is p (plain_of p valid packed)) (rules_plain p.codec p.channels p.max_blocks octets n fits enough few)
+
+-- what is told of octets by a table that was read of the bits behind the header, and by the octets that it needs
+pub record Answers (p : Profile) (octets : List ℕ) (bits : List Bool) : Type 0 where
+  pub table : (r : PayloadRefusal) → table_refusal p 6 bits ≡ Some r → IsRefused p octets r
+  pub unfit : (es : List Entry) (n : ℕ) (r : PayloadRefusal) → table_refusal p 6 bits ≡ None → es ≡ table_of p 6 bits → n ≡ need_by p.codec es → misfit n (length octets) ≡ Some r → IsRefused p octets r
+  pub accepted : (es : List Entry) (n : ℕ) → table_refusal p 6 bits ≡ None → es ≡ table_of p 6 bits → n ≡ need_by p.codec es → misfit n (length octets) ≡ None → IsAccepted p octets × (es ≡ toc_at p octets)
+
+pub answers : {p : Profile} {octets : List ℕ} {bits : List Bool} {n : ℕ} → IsPacked p → eqb (length octets) 0 ≡ false → bits ≡ bits_at octets 4 n → 4 + n ≤ 8 * length octets → (4 + n ≡ 8 * length octets) ⊎ (3080 ≤ n) → p.max_blocks * p.channels ≤ 384 → Answers p octets bits
+answers {p} {octets} {bits} {n} format not_empty is fits enough few =
+    let some : 0 < length octets = above (length octets) (eqb-false (length octets) 0 not_empty) in
+    let r = rules p octets n format.valid format.packed fits enough few in
+    let none = λ (e : table_refusal p 6 bits ≡ None). ap (table_refusal p 6) (sym is) ∙ e in
+    let listed = λ (es : List Entry) (e : table_refusal p 6 bits ≡ None) (t : es ≡ table_of p 6 bits). t ∙ ap (table_of p 6) is ∙ r.listed (none e) in
+    record {
+      table = λ why e. r.table why some (ap (table_refusal p 6) (sym is) ∙ e);
+      unfit = λ es k why e t needs m. r.unfit why some (none e) (ap (λ (j : ℕ). misfit j (length octets)) (sym (r.size es (listed es e t)) ∙ sym needs) ∙ m);
+      accepted = λ es k e t needs m. (r.none some (none e) (sym (r.size es (listed es e t)) ∙ sym needs ∙ exactly k (length octets) m), listed es e t);
+    }

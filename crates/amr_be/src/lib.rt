@@ -6,8 +6,6 @@ mod read;
 #[cfg(test)]
 mod tests;
 mod write;
-#[cfg(test)]
-mod write_tests;
 
 pub use laws::{reads_what_was_written, writes_what_was_read};
 pub use read::read_be;

@@ -1,11 +1,10 @@
-ghost use Rattle.std.specs.Prelude.{◌≡◌, ◌+◌, ◌*◌, ◌≤◌, ◌<◌, ◌⊎◌, IfErr, IfOk, false, length};
+ghost use Rattle.std.specs.Prelude.{◌≡◌, ◌+◌, ◌*◌, ◌≤◌, ◌<◌, ◌⊎◌, length};
 ghost use Rattle.amr_bits.specs.Bits.{bits_at};
 ghost use Rattle.amr_bits.specs.Runs.{run};
 ghost use Rattle.amr_be.specs.Needs.{need_by};
-ghost use Rattle.amr_frame.specs.Profiles.{IsValid};
-ghost use Rattle.amr_toc.specs.Lists.{listed, toc_at};
-ghost use Rattle.amr_toc.specs.Told.{IsAccepted, IsRead, IsRefused};
-ghost use Rattle.amr_toc.specs.Viewed.{format_of, octets_of, viewed};
+ghost use Rattle.amr_toc.specs.Lists.{listed};
+ghost use Rattle.amr_toc.specs.Payloads.{IsPacked};
+ghost use Rattle.amr_toc.specs.Told.{Accepts, Reads};
 
 use amr_bits::BitSlice;
 use amr_frame::Profile;
@@ -14,30 +13,16 @@ use amr_toc::{PayloadRefusal, PayloadView, Toc, bits_before, entries_within, mis
 /// Reads a bandwidth-efficient payload in place. Refuses octets by the first of P1, P4 to P7, P9 and P10
 /// that holds of them; the others are of interleaved payloads.
 pub fn read_be<'a>(profile: &Profile, octets: &'a [u8]) -> Result<PayloadView<'a>, PayloadRefusal>
-    requires valid { IsValid profile.now }
-    requires packed { profile.now.octet_aligned ≡ false }
-
-    ensures value { IfOk result (λ view. IsRead profile.now octets.now (viewed view)) }
-    ensures format { IfOk result (λ view. format_of view ≡ profile.now) }
-    ensures octets { IfOk result (λ view. octets_of view ≡ octets.now) }
-
-    ensures refused { IfErr result (λ why. IsRefused profile.now octets.now why) }
+    requires format { IsPacked profile.now }
+    ensures { Reads profile.now octets.now result }
 {
-    let toc = match accept(profile, octets) {
-        Ok(toc) => toc,
-        Err(why) => return Err(why),
-    };
-    Ok(PayloadView::over(profile, octets, toc))
+    PayloadView::told(profile, octets, accept(profile, octets))
 }
 
 /// Reads the table of a payload that isn't refused.
 fn accept<'a>(profile: &Profile, octets: &'a [u8]) -> Result<Toc<'a>, PayloadRefusal>
-    requires valid { IsValid profile.now }
-    requires packed { profile.now.octet_aligned ≡ false }
-
-    ensures accepted { IfOk result (λ toc. IsAccepted profile.now octets.now) }
-    ensures table { IfOk result (λ toc. listed toc ≡ toc_at profile.now octets.now) }
-    ensures refused { IfErr result (λ why. IsRefused profile.now octets.now why) }
+    requires format { IsPacked profile.now }
+    ensures { Accepts profile.now octets.now result }
 {
     if octets.is_empty() {
         return Err(PayloadRefusal::Empty);

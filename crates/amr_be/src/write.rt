@@ -3,8 +3,7 @@ ghost use Rattle.amr_be.specs.Parts.{HaveTypes, body_part, table_part};
 ghost use Rattle.amr_bits.specs.Bits.{filled, octets_for};
 ghost use Rattle.amr_bits.specs.Written.{front};
 ghost use Rattle.amr_frame.specs.Blocks.{frames_of};
-ghost use Rattle.amr_frame.specs.Profiles.{IsValid};
-ghost use Rattle.amr_toc.specs.Payloads.{IsCarried, meant};
+ghost use Rattle.amr_toc.specs.Payloads.{Carries, CarriesInto, IsSize, meant};
 ghost use Rattle.spec_payload.specs.Grammar.{text};
 
 use amr_bits::BitWriter;
@@ -13,13 +12,9 @@ use amr_toc::{Entry, Payload, entries_within, put_entry};
 
 /// How many octets a bandwidth-efficient payload has.
 pub fn size_be(profile: &Profile, payload: &Payload<'_>) -> usize
-    requires valid { IsValid profile.now }
     requires packed { profile.now.octet_aligned ≡ false }
-    requires payload { IsCarried profile.now payload.now }
-
-    ensures size { result ≡ length (text profile.now (meant payload.now)) }
-    ensures some { 1 ≤ result }
-    ensures most { result ≤ 23185 }
+    requires payload { Carries profile.now payload.now }
+    ensures { IsSize profile.now payload.now 23185 result }
 {
     entries_within(profile);
     let cells = payload.cells;
@@ -40,11 +35,8 @@ fn body_bits(cells: &[Cell]) -> usize
 
 /// Writes a bandwidth-efficient payload, with the pad bits 0. All of `out` is then the payload.
 pub fn write_be(profile: &Profile, payload: &Payload<'_>, out: &mut [u8])
-    requires valid { IsValid profile.now }
     requires packed { profile.now.octet_aligned ≡ false }
-    requires payload { IsCarried profile.now payload.now }
-    requires size { length out.old ≡ length (text profile.now (meant payload.now)) }
-
+    requires payload { CarriesInto profile.now payload.now out.old }
     ensures { out.new ≡ text profile.now (meant payload.now) }
 {
     entries_within(profile);

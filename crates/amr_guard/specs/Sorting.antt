@@ -1,8 +1,19 @@
 -- The octets of a payload's frames in plain order and in robust order (RFC 4867, 4.4.3 and 4.4.4).
-use Rattle.std.specs.Prelude.{◌≡◌, ℕ, ◌+◌, ◌<◌, List, length, map, take, slice_index, sum}
-use Rattle.std.specs.List.{position_or_len}
+use Rattle.std.specs.Prelude.{◌≡◌, ℕ, ◌+◌, ◌<◌, ◌≤◌, List, length, map, take, slice_index, sum}
+use Rattle.std.specs.List.{All, position_or_len}
 use Rattle.spec_payload.specs.Reading.{is_place}
 use Rattle.spec_payload.specs.RobustOrder.{Place, robust_order}
+
+-- the octets of each frame of a payload
+pub record AreLengths (lengths : List ℕ) : Type 0 where
+  pub frames : length lengths ≤ 384
+  pub short : All (λ l. l ≤ 60) lengths
+
+-- two lists that each hold the octets of frames of these lengths, as many as there are
+pub record HoldFrames (lengths plain sorted : List ℕ) : Type 0 where
+  pub sizes : AreLengths lengths
+  pub before : length plain ≡ sum lengths
+  pub after : length sorted ≡ sum lengths
 
 -- there is an octet `octet` of frame `frame`
 abbrev pub IsOctet : List ℕ → ℕ → ℕ → Type 0

@@ -1,5 +1,5 @@
 -- A walk over the octets in plain order: where the next ones go, and what is done.
-use Rattle.std.specs.Prelude.{◌≡◌, ℕ, ◌+◌, ◌<◌, min, nat_lt, List, length, take, slice_index}
+use Rattle.std.specs.Prelude.{◌≡◌, ℕ, ◌+◌, ◌<◌, min, nat_lt, List, length, take, slice_index, sum}
 use Rattle.std.specs.List.{sum_by, count_by}
 use Rattle.amr_guard.specs.Sorting.{IsOctet, plain_place, robust_place}
 
@@ -14,6 +14,12 @@ abbrev pub AreNext : List ℕ → ℕ → List ℕ → Type 0
 AreNext lengths frame places =
     (length places ≡ 60)
     × ((octet : ℕ) → octet < 60 → slice_index places octet ≡ next_place lengths frame octet)
+
+-- a walk stands before frame `frame`: its octets begin at `start`, and go to these places
+pub record IsBefore (lengths : List ℕ) (frame start : ℕ) (places : List ℕ) : Type 0 where
+  pub exists : frame < length lengths
+  pub begins : start ≡ sum (take frame lengths)
+  pub next : AreNext lengths frame places
 
 -- the first `done` octets of `plain` stand in `sorted` at their places of the robust order
 abbrev pub AgreeUpTo : List ℕ → List ℕ → List ℕ → ℕ → Type 0

@@ -1,14 +1,13 @@
 ghost use Rattle.std.specs.Prelude.{◌≡◌, ℕ, ◌≤◌, ◌<◌, min, nat_lt, nat_eq, length, sum, slice_index, slice_index_or};
 ghost use Rattle.std.specs.List.{All, sum_by, count_by};
 ghost use Rattle.spec_payload.specs.RobustOrder.{Place, place as pair, robust_order};
-ghost use Rattle.amr_guard.specs.Sorting.{IsOctet, robust_place};
+ghost use Rattle.amr_guard.specs.Sorting.{AreLengths, IsOctet, robust_place};
 ghost use Rattle.amr_guard.specs.Walking.{AreNext};
 
 /// The place in the robust order, counted from 0, of octet `octet` of frame `frame`, where the
 /// frames have `lengths` octets (RFC 4867, 4.4.4). It looks at each length.
 pub fn sorted_place(lengths: &[u8], frame: usize, octet: usize) -> usize
-    requires frames { length lengths.now ≤ 384 }
-    requires short { All (λ l. l ≤ 60) lengths.now }
+    requires lengths { AreLengths lengths.now }
     requires exists { IsOctet lengths.now frame octet }
     ensures place { result ≡ robust_place lengths.now frame octet }
     ensures stands { (d : Place)
@@ -45,8 +44,7 @@ fn frames_having(lengths: &[u8], octet: usize) -> usize
 
 /// For each octet number, the place in the robust order of the first octet with that number.
 pub(crate) fn row_starts(lengths: &[u8]) -> [usize; 60]
-    requires frames { length lengths.now ≤ 384 }
-    requires short { All (λ l. l ≤ 60) lengths.now }
+    requires lengths { AreLengths lengths.now }
     ensures { AreNext lengths.now 0 result }
 {
     let counts = counted(lengths);

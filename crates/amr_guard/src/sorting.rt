@@ -1,17 +1,15 @@
-ghost use Rattle.std.specs.Prelude.{◌≡◌, ℕ, List, ◌+◌, ◌≤◌, ◌<◌, length, sum, take, slice_index};
-ghost use Rattle.std.specs.List.{All};
-ghost use Rattle.amr_guard.specs.Sorting.{Agree, sorted_of};
-ghost use Rattle.amr_guard.specs.Walking.{AreNext, AgreeUpTo};
+//! Octets of frames between plain and robust order, in time linear in them. The readers and writers of this
+//! repository look octets up in place (`sorted_place`) and don't need these; they are for other users.
+ghost use Rattle.std.specs.Prelude.{◌≡◌, ℕ, List, ◌+◌, length, sum, slice_index};
+ghost use Rattle.amr_guard.specs.Sorting.{Agree, HoldFrames, sorted_of};
+ghost use Rattle.amr_guard.specs.Walking.{AreNext, AgreeUpTo, IsBefore};
 
 use crate::places::row_starts;
 
 /// Brings the octets `plain` of frames with these lengths, which stand frame by frame, into the
 /// robust order (RFC 4867, 4.4.4), in time linear in the octets.
 pub fn sort_octets(lengths: &[u8], plain: &[u8], out: &mut [u8])
-    requires frames { length lengths.now ≤ 384 }
-    requires short { All (λ l. l ≤ 60) lengths.now }
-    requires plain { length plain.now ≡ sum lengths.now }
-    requires out { length out.old ≡ sum lengths.now }
+    requires octets { HoldFrames lengths.now plain.now out.old }
     ensures sorted { out.new ≡ sorted_of lengths.now plain.now }
     ensures octets { Agree lengths.now plain.now out.new }
 {
@@ -26,10 +24,7 @@ pub fn sort_octets(lengths: &[u8], plain: &[u8], out: &mut [u8])
 /// Brings the octets `sorted` of frames with these lengths, which stand in the robust order, back
 /// frame by frame, in time linear in the octets.
 pub fn unsort_octets(lengths: &[u8], sorted: &[u8], out: &mut [u8])
-    requires frames { length lengths.now ≤ 384 }
-    requires short { All (λ l. l ≤ 60) lengths.now }
-    requires sorted { length sorted.now ≡ sum lengths.now }
-    requires out { length out.old ≡ sum lengths.now }
+    requires octets { HoldFrames lengths.now out.old sorted.now }
     ensures octets { Agree lengths.now out.new sorted.now }
     ensures sorts_back { sorted_of lengths.now out.new ≡ sorted.now }
     ensures undoes_sorting { (plain : List ℕ) → length plain ≡ sum lengths.now
@@ -52,13 +47,8 @@ fn put_frame(
     plain: &[u8],
     out: &mut [u8],
 )
-    requires frames { length lengths.now ≤ 384 }
-    requires short { All (λ l. l ≤ 60) lengths.now }
-    requires plain { length plain.now ≡ sum lengths.now }
-    requires out { length out.old ≡ sum lengths.now }
-    requires frame { frame < length lengths.now }
-    requires start { start ≡ sum (take frame lengths.now) }
-    requires places { AreNext lengths.now frame places.old }
+    requires octets { HoldFrames lengths.now plain.now out.old }
+    requires before { IsBefore lengths.now frame start places.old }
     requires done { AgreeUpTo lengths.now plain.now out.old start }
     ensures places { AreNext lengths.now (frame + 1) places.new }
     ensures done { AgreeUpTo lengths.now plain.now out.new (start + slice_index lengths.now frame) }
@@ -79,13 +69,8 @@ fn take_frame(
     sorted: &[u8],
     out: &mut [u8],
 )
-    requires frames { length lengths.now ≤ 384 }
-    requires short { All (λ l. l ≤ 60) lengths.now }
-    requires sorted { length sorted.now ≡ sum lengths.now }
-    requires out { length out.old ≡ sum lengths.now }
-    requires frame { frame < length lengths.now }
-    requires start { start ≡ sum (take frame lengths.now) }
-    requires places { AreNext lengths.now frame places.old }
+    requires octets { HoldFrames lengths.now out.old sorted.now }
+    requires before { IsBefore lengths.now frame start places.old }
     requires done { AgreeUpTo lengths.now out.old sorted.now start }
     ensures places { AreNext lengths.now (frame + 1) places.new }
     ensures done { AgreeUpTo lengths.now out.new sorted.now

@@ -7,7 +7,7 @@ use Rattle.std.proofs.lemmas.List.{length-map, length-append, map-append, take-m
 use Rattle.std.proofs.lemmas.List.FromFn.{get_or-map-range_with_len}
 use Rattle.std.proofs.lemmas.List.Concat.{flat_map-append}
 use Rattle.std.proofs.lemmas.List.Sums.{sum_by-cons}
-use Rattle.amr_bits.specs.Bits.{nat, bits_of, bits_at, part, filled, octets_for}
+use Rattle.amr_bits.specs.Bits.{AreOctets, nat, bits_of, bits_at, part, filled, octets_for}
 use Rattle.amr_bits.specs.Layout.{Mark, fixed, free, padded, settled}
 use Rattle.amr_bits.proofs.Filled.{octet_of, filled-front, gap, length-filled}
 use Rattle.amr_bits.proofs.Runs.{run-all, run-is_part, run-octet}
@@ -251,11 +251,16 @@ length-text p v aligned h =
     ap length (text_is p v aligned h) ∙ length-filled (bits_of w) ∙ octets ∙ length-written p v
 
 -- octets that have these bits
-pub filled_octets : (octets : List ℕ) → ((k : ℕ) → get_or octets k 0 < 256) → filled (bits_of octets) ≡ octets
-filled_octets octets small =
+below : (octets : List ℕ) → AreOctets octets → (k : ℕ) → get_or octets k 0 < 256
+below [] are k = omega arith
+below (o ∷ octets) are zero = are.0
+below (o ∷ octets) are (suc k) = below octets are.1 k
+
+pub filled_octets : (octets : List ℕ) → AreOctets octets → filled (bits_of octets) ≡ octets
+filled_octets octets are =
     let n = length octets in
     ap filled (sym (run-all octets) ∙ sym (append-nil (bits_at octets 0 (8 * n))))
-    ∙ filled-front octets n [] (omega arith) small
+    ∙ filled-front octets n [] (omega arith) (below octets are)
     ∙ append-nil (take n octets) ∙ take_all n octets (omega arith)
 
 -- the bits of the canonical octets are those that are written

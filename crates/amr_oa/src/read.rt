@@ -1,11 +1,10 @@
-ghost use Rattle.std.specs.Prelude.{◌≡◌, ◌+◌, ◌*◌, ◌/◌, ◌≤◌, ◌<◌, ◌⊎◌, IfErr, IfNone, IfOk, cond, is_some, length, true};
+ghost use Rattle.std.specs.Prelude.{◌≡◌, ◌+◌, ◌*◌, ◌/◌, ◌≤◌, ◌<◌, ◌⊎◌, IfNone, cond, is_some, length, true};
 ghost use Rattle.amr_bits.specs.Bits.{bits_at};
 ghost use Rattle.amr_bits.specs.Runs.{run};
-ghost use Rattle.amr_frame.specs.Profiles.{IsValid};
 ghost use Rattle.amr_oa.specs.Steps.{group_refusal, header_refusal};
-ghost use Rattle.amr_toc.specs.Lists.{listed, toc_at, types_of};
-ghost use Rattle.amr_toc.specs.Told.{IsAccepted, IsRead, IsRefused};
-ghost use Rattle.amr_toc.specs.Viewed.{format_of, octets_of, viewed};
+ghost use Rattle.amr_toc.specs.Lists.{listed, types_of};
+ghost use Rattle.amr_toc.specs.Payloads.{IsAligned};
+ghost use Rattle.amr_toc.specs.Told.{Accepts, Reads};
 ghost use Rattle.spec_payload.specs.Reading.{need};
 
 use amr_bits::BitSlice;
@@ -17,30 +16,16 @@ use amr_toc::{
 
 /// Reads an octet-aligned payload in place. Refuses octets by the first of P1 to P10 that holds of them.
 pub fn read_oa<'a>(profile: &Profile, octets: &'a [u8]) -> Result<PayloadView<'a>, PayloadRefusal>
-    requires valid { IsValid profile.now }
-    requires aligned { profile.now.octet_aligned ≡ true }
-
-    ensures value { IfOk result (λ view. IsRead profile.now octets.now (viewed view)) }
-    ensures format { IfOk result (λ view. format_of view ≡ profile.now) }
-    ensures octets { IfOk result (λ view. octets_of view ≡ octets.now) }
-
-    ensures refused { IfErr result (λ why. IsRefused profile.now octets.now why) }
+    requires format { IsAligned profile.now }
+    ensures { Reads profile.now octets.now result }
 {
-    let toc = match accept(profile, octets) {
-        Ok(toc) => toc,
-        Err(why) => return Err(why),
-    };
-    Ok(PayloadView::over(profile, octets, toc))
+    PayloadView::told(profile, octets, accept(profile, octets))
 }
 
 /// Reads the table of a payload that isn't refused.
 fn accept<'a>(profile: &Profile, octets: &'a [u8]) -> Result<Toc<'a>, PayloadRefusal>
-    requires valid { IsValid profile.now }
-    requires aligned { profile.now.octet_aligned ≡ true }
-
-    ensures accepted { IfOk result (λ toc. IsAccepted profile.now octets.now) }
-    ensures table { IfOk result (λ toc. listed toc ≡ toc_at profile.now octets.now) }
-    ensures refused { IfErr result (λ why. IsRefused profile.now octets.now why) }
+    requires format { IsAligned profile.now }
+    ensures { Accepts profile.now octets.now result }
 {
     if let Some(why) = header_fault(profile, octets) {
         return Err(why);

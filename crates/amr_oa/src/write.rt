@@ -3,24 +3,19 @@ ghost use Rattle.std.specs.List.{AllByRecursion};
 ghost use Rattle.amr_frame.specs.Blocks.{frames_of};
 ghost use Rattle.amr_frame.specs.Cells.{frame_of};
 ghost use Rattle.amr_frame.specs.Frames.{IsFrame};
-ghost use Rattle.amr_frame.specs.Profiles.{IsValid};
 ghost use Rattle.amr_oa.specs.Written.{check_part, checks_part, entry_octet, header_part, table_part};
-ghost use Rattle.amr_toc.specs.Payloads.{IsCarried, meant};
+ghost use Rattle.amr_toc.specs.Payloads.{Carries, CarriesInto, IsSize, meant};
 ghost use Rattle.spec_payload.specs.Grammar.{check_of, text};
 
 use crate::body::{body_octets, put_bodies};
 use amr_frame::{Cell, Profile};
-use amr_toc::{Payload, check_over, entries_within, header_octets};
+use amr_toc::{Payload, are_octets, check_over, entries_within, header_octets};
 
 /// How many octets an octet-aligned payload has.
 pub fn size_oa(profile: &Profile, payload: &Payload<'_>) -> usize
-    requires valid { IsValid profile.now }
     requires aligned { profile.now.octet_aligned ≡ true }
-    requires payload { IsCarried profile.now payload.now }
-
-    ensures size { result ≡ length (text profile.now (meant payload.now)) }
-    ensures some { 1 ≤ result }
-    ensures most { result ≤ 23810 }
+    requires payload { Carries profile.now payload.now }
+    ensures { IsSize profile.now payload.now 23810 result }
 {
     entries_within(profile);
     let cells = payload.cells;
@@ -51,11 +46,8 @@ fn has_check(profile: &Profile, cell: &Cell) -> bool
 
 /// Writes an octet-aligned payload, with the free bits 0. All of `out` is then the payload.
 pub fn write_oa(profile: &Profile, payload: &Payload<'_>, out: &mut [u8])
-    requires valid { IsValid profile.now }
     requires aligned { profile.now.octet_aligned ≡ true }
-    requires payload { IsCarried profile.now payload.now }
-    requires size { length out.old ≡ length (text profile.now (meant payload.now)) }
-
+    requires payload { CarriesInto profile.now payload.now out.old }
     ensures { out.new ≡ text profile.now (meant payload.now) }
 {
     entries_within(profile);
@@ -135,8 +127,3 @@ fn put_check(profile: &Profile, cell: &Cell, at: usize, out: &mut [u8]) -> usize
     out[at] = check_over(profile.codec, cell.ft, cell.bits.as_bits());
     at + 1
 }
-
-/// Each octet is below 256. Says so, and does nothing.
-fn are_octets(octets: &[u8])
-    ensures { (k : ℕ) → slice_index octets.now k < 256 }
-{}

@@ -10,6 +10,7 @@ use Rattle.amr_toc.specs.Told.{IsRead, IsRefused}
 use Rattle.amr_toc.specs.Viewed.{format_of, octets_of, is_damaged}
 use Rattle.spec_payload.specs.declared.refusal.PayloadRefusal.{PayloadRefusal}
 use Rattle.amr_oa.proofs.Canonical.{bits_of_text as aligned_bits}
+use Rattle.amr_oa.proofs.Returning.{checked_marked}
 use Rattle.amr_frame.specs.declared.profile.Profile.{Profile}
 use Rattle.amr_frame.specs.Profiles.{IsValid}
 use Rattle.amr_payload.specs.Checks.{own_checks}
@@ -20,6 +21,7 @@ use Rattle.payload_laws.proofs.Checks.{checks_below}
 use Rattle.payload_laws.proofs.Marks.{length-bits_of, fits_length}
 use Rattle.payload_laws.proofs.OneValue.{one_value, one_checks}
 use Rattle.spec_payload.specs.Grammar.{IsPayload, layout, aligned_layout, packed_layout, text, check_of, checked}
+use Rattle.spec_payload.specs.Seen.{seen}
 use Rattle.spec_payload.specs.Values.{Value, IsValue}
 
 -- the bits of the canonical octets are those that are written
@@ -80,3 +82,7 @@ undamaged view v k valid h e = elim (either (format_of view).octet_aligned) [
   | inl aligned ↦ aligned_undamaged view v k valid aligned h e
   | inr packed ↦ packed_undamaged view k valid packed
 ]
+
+-- with the CRCs of its frames a value is seen as it is
+pub seen_own : (p : Profile) (v : Value) → seen p v (own_checks p v) ≡ v
+seen_own p v = λ i. record { cmr = v.cmr; stride = v.stride; index = v.index; frames = checked_marked p v.frames i }

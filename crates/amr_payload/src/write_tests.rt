@@ -191,6 +191,20 @@ fn payloads_are_written(rt: HostRuntime) {
     let speech = cell(Codec::Amr, 7, true, &last);
     let empty = cell(Codec::Amr, 15, true, &zeros);
     let sid = cell(Codec::Amr, 8, false, &[0xff; 60]);
+    let packed = format(Codec::Amr, false, false, false);
+    assert!(rt;
+        written(&packed, &[cell(Codec::Amr, 7, true, &zeros)]) == expected(&[0xf3, 0xc0], 32)
+    );
+    assert!(rt;
+        written(&packed, &[cell(Codec::Amr, 4, true, &zeros)]) == expected(&[0xf2, 0x40], 20)
+    );
+    assert!(rt; written(&packed, &[empty, empty]) == expected(&[0xff, 0xdf], 2));
+    assert!(rt;
+        written(
+            &format(Codec::AmrWb, false, false, false),
+            &[cell(Codec::AmrWb, 9, false, &[0xff; 60])]
+        ) == expected(&[0xf4, 0xbf, 0xff, 0xff, 0xff, 0xff, 0xc0], 7)
+    );
     let checked = format(Codec::Amr, true, true, false);
     assert!(rt;
         written(&checked, &[speech])

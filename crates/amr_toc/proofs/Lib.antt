@@ -1,3 +1,4 @@
+pub mod Carried
 pub mod CheckPlaces
 pub mod Ends
 pub mod EntryBits
@@ -5,6 +6,7 @@ pub mod InPayload
 pub mod Filling
 pub mod Marked
 pub mod Orders
+pub mod Reading
 pub mod Settled
 pub mod Shown
 pub mod Sizes

@@ -1,6 +1,7 @@
 pub mod Cleared
 pub mod Entries
 pub mod Fitting
+pub mod Frames
 pub mod Lists
 pub mod Payloads
 pub mod Places
@@ -8,3 +9,4 @@ pub mod Table
 pub mod Told
 pub mod Viewed
 pub mod Walks
+pub mod Widths

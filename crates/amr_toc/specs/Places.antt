@@ -15,10 +15,16 @@ abbrev pub body_bit : Profile → List ℕ → ℕ
 body_bit p fts = cond p.octet_aligned (8 * (checks_start p fts + checks_count p fts))
     (entry_start p (length fts))
 
--- how many bits the frames before frame k take up, where they aren't sorted
+-- how many bits and octets the frames before frame k have
+abbrev pub bits_ahead : Profile → List ℕ → ℕ → ℕ
+bits_ahead p fts k = sum (map (bits_in p.codec) (take k fts))
+
+abbrev pub octets_ahead : Profile → List ℕ → ℕ → ℕ
+octets_ahead p fts k = sum (take k (sizes_in p fts))
+
+-- how many bits they take up, where they aren't sorted
 abbrev pub bits_to : Profile → List ℕ → ℕ → ℕ
-bits_to p fts k = cond p.octet_aligned (8 * sum (take k (sizes_in p fts)))
-    (sum (map (bits_in p.codec) (take k fts)))
+bits_to p fts k = cond p.octet_aligned (8 * octets_ahead p fts k) (bits_ahead p fts k)
 
 -- the octet of an octet-aligned payload that has octet o of frame k
 abbrev pub octet_place : Profile → List ℕ → ℕ → ℕ → ℕ

@@ -1,8 +1,9 @@
 //! How much of a payload its table of contents asks for, in bits and octets.
-ghost use Rattle.std.specs.Prelude.{◌≡◌, ◌*◌, ◌≤◌, filter, length, map, nat_lt, sum, take};
-ghost use Rattle.amr_frame.specs.Tables.{bits_in, octets_in};
+ghost use Rattle.std.specs.Prelude.{◌≡◌, ◌*◌, ◌≤◌, filter, length, nat_lt, take};
+ghost use Rattle.amr_frame.specs.Tables.{bits_in};
 ghost use Rattle.amr_toc.specs.Fitting.{misfit};
 ghost use Rattle.amr_toc.specs.Lists.{listed, types_of};
+ghost use Rattle.amr_toc.specs.Places.{bits_ahead, octets_ahead, sizes_in};
 ghost use Rattle.spec_payload.specs.Reading.{checks_count};
 
 use crate::entry::Toc;
@@ -13,8 +14,7 @@ use spec_payload::PayloadRefusal;
 #[inline(always)]
 pub fn bits_before(profile: &Profile, toc: &Toc<'_>, at: usize) -> usize
     requires { at ≤ length (listed toc.now) }
-    ensures sum { result ≡ sum
-        (map (bits_in profile.now.codec) (take at (types_of (listed toc.now)))) }
+    ensures bits { result ≡ bits_ahead profile.now (types_of (listed toc.now)) at }
     ensures most { result ≤ 477 * at }
 {
     let mut bits = 0;
@@ -27,8 +27,7 @@ pub fn bits_before(profile: &Profile, toc: &Toc<'_>, at: usize) -> usize
 /// The number of octets that hold the frames before frame `at`, each filled up to a whole octet.
 pub fn octets_before(profile: &Profile, toc: &Toc<'_>, at: usize) -> usize
     requires { at ≤ length (listed toc.now) }
-    ensures sum { result ≡ sum
-        (take at (map (octets_in profile.now.codec) (types_of (listed toc.now)))) }
+    ensures octets { result ≡ octets_ahead profile.now (types_of (listed toc.now)) at }
     ensures most { result ≤ 60 * at }
 {
     let mut octets = 0;
@@ -69,7 +68,7 @@ pub fn checks_of(profile: &Profile, toc: &Toc<'_>) -> usize
 /// The number of octets of each frame, in the order of the table; zeros behind them.
 pub(crate) fn octet_counts(profile: &Profile, toc: &Toc<'_>) -> [u8; 384]
     ensures { take (length (listed toc.now)) result
-        ≡ map (octets_in profile.now.codec) (types_of (listed toc.now)) }
+        ≡ sizes_in profile.now (types_of (listed toc.now)) }
 {
     let mut counts = [0; 384];
     for at in 0..toc.len() {

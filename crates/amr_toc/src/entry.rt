@@ -1,7 +1,8 @@
 ghost use Rattle.std.specs.List.{range_with_len};
-ghost use Rattle.std.specs.Prelude.{◌≡◌, ◌≤◌, ◌<◌, ◌*◌, ◌+◌, length, map, slice_index_or, true};
+ghost use Rattle.std.specs.Prelude.{◌≡◌, ◌≤◌, ◌<◌, ◌*◌, length, map, slice_index_or};
 ghost use Rattle.amr_bits.specs.Runs.{run};
 ghost use Rattle.amr_toc.specs.Table.{entry_of};
+ghost use Rattle.amr_toc.specs.Widths.{HoldEntry, HoldTable};
 
 use amr_bits::BitSlice;
 
@@ -10,15 +11,6 @@ use amr_bits::BitSlice;
 pub struct Entry {
     pub ft: u8,
     pub q: bool,
-}
-
-impl Default for Entry {
-    /// NO_DATA with Q = 1, which fills unused room and is never seen.
-    fn default() -> Entry
-        ensures { result ≡ record { ft = 15; q = true } }
-    {
-        Entry { ft: 15, q: true }
-    }
 }
 
 /// A table of contents at the front of borrowed bits: from 1 to 384 entries, of 6 bits each (RFC 4867, 4.3.2) or of 8
@@ -40,11 +32,7 @@ impl<'a> Toc<'a> {
 
     /// The table of so many entries at the front of bits.
     pub(crate) fn over(bits: BitSlice<'a>, width: usize, entries: usize) -> Toc<'a>
-        requires some { 1 ≤ entries }
-        requires most { entries ≤ 384 }
-        requires low { 6 ≤ width }
-        requires high { width ≤ 8 }
-        requires whole { entries * width ≤ bits.len }
+        requires table { HoldTable bits.len width entries }
         ensures { listed result ≡ map (entry_of width (run bits.entry)) (range_with_len 0 entries) }
     {
         Toc {
@@ -57,8 +45,7 @@ impl<'a> Toc<'a> {
     /// How many entries the table has.
     pub fn len(&self) -> usize
         ensures entries { result ≡ length (listed self.now) }
-        ensures some { 1 ≤ result }
-        ensures most { result ≤ 384 }
+        ensures few { (1 ≤ result) × (result ≤ 384) }
     {
         self.entries
     }
@@ -75,10 +62,7 @@ impl<'a> Toc<'a> {
 
 /// Entry `at` of a table at the front of bits, which is whole.
 pub(crate) fn entry_at(bits: BitSlice<'_>, width: usize, at: usize) -> Entry
-    requires at { at ≤ 384 }
-    requires low { 6 ≤ width }
-    requires high { width ≤ 8 }
-    requires whole { (at + 1) * width ≤ bits.len }
+    requires { HoldEntry bits.len width at }
     ensures { result ≡ entry_of width (run bits.entry) at }
 {
     Entry {

@@ -17,6 +17,7 @@ pub use checks::check_over;
 pub use counts::{bits_before, checks_of, misfit_of, octets_before};
 pub use entry::{Entry, Toc};
 pub use header::{header_octets, interleaving_number};
+pub use octets::are_octets;
 pub use payload::Payload;
 pub use read::{entries_within, read_toc};
 pub use spec_payload::PayloadRefusal;

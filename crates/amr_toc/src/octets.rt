@@ -1,5 +1,5 @@
 ghost use Rattle.std.specs.Prelude.{◌≡◌, ◌<◌, slice_index};
-ghost use Rattle.amr_bits.specs.Bits.{filled, octets_for};
+ghost use Rattle.amr_bits.specs.Bits.{AreOctets, filled, octets_for};
 ghost use Rattle.amr_bits.specs.Runs.{run};
 
 use amr_bits::BitSlice;
@@ -14,3 +14,8 @@ pub(crate) fn octet_in(bits: BitSlice<'_>, octet: usize) -> u8
     bits.part(8 * octet, count).copy_to(&mut out);
     out[0]
 }
+
+/// Each octet is below 256. Says so, and does nothing.
+pub fn are_octets(octets: &[u8])
+    ensures { AreOctets octets.now }
+{}

@@ -3,6 +3,7 @@ ghost use Rattle.amr_bits.specs.Runs.{run};
 ghost use Rattle.amr_frame.specs.Profiles.{IsValid};
 ghost use Rattle.amr_toc.specs.Lists.{listed};
 ghost use Rattle.amr_toc.specs.Table.{fault_of, last_of, table_of, table_refusal};
+ghost use Rattle.amr_toc.specs.Widths.{HoldTable, IsWide};
 
 use crate::entry::Toc;
 use amr_bits::BitSlice;
@@ -49,19 +50,14 @@ fn count_entries(
     width: usize,
 ) -> Result<usize, PayloadRefusal>
     requires most { profile.now.max_blocks * profile.now.channels ≤ 384 }
-    requires low { 6 ≤ width }
-    requires high { width ≤ 8 }
+    requires wide { IsWide width }
 
     ensures count { IfOk result (λ n. n ≡ last_of profile.now width (run bits.entry) + 1) }
-    ensures whole { IfOk result (λ n. n * width ≤ bits.entry.len) }
-    ensures some { IfOk result (λ n. 1 ≤ n) }
-    ensures few { IfOk result (λ n. n ≤ 384) }
-    ensures accepted { IfOk result
-        (λ n. fault_of profile.now width (run bits.entry)
+    ensures table { IfOk result (λ n. HoldTable bits.entry.len width n) }
+    ensures accepted { IfOk result (λ n. fault_of profile.now width (run bits.entry)
         (last_of profile.now width (run bits.entry)) ≡ None) }
 
-    ensures refused { IfErr result
-        (λ why. fault_of profile.now width (run bits.entry)
+    ensures refused { IfErr result (λ why. fault_of profile.now width (run bits.entry)
         (last_of profile.now width (run bits.entry)) ≡ Some why) }
 {
     let most = profile.max_blocks as usize * profile.channels as usize;
@@ -84,8 +80,7 @@ fn fault_at(
     at: usize,
 ) -> Option<PayloadRefusal>
     requires at { at ≤ 384 }
-    requires low { 6 ≤ width }
-    requires high { width ≤ 8 }
+    requires wide { IsWide width }
     ensures fault { result ≡ fault_of profile.now width (run bits.entry) at }
     ensures whole { IfNone result ((at + 1) * width ≤ bits.entry.len) }
     ensures few { IfNone result (at ≢ profile.now.max_blocks * profile.now.channels) }

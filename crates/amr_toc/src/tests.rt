@@ -67,7 +67,7 @@ fn written(width: u32, octets: &[u8]) -> Option<([u8; 5], usize)>
     }
     let mut out = [0xff; 5];
     let mut at = BitWriter { written: 4 };
-    let mut entries = [Entry::default(); 4];
+    let mut entries = [Entry { ft: 15, q: true }; 4];
     for k in 0..toc.len() {
         entries[k] = toc.entry(k);
     }

@@ -14,10 +14,11 @@ use crate::checks::check_over;
 use crate::counts::{bits_before, checks_of, filled_before, octet_counts, octets_before};
 use crate::entry::{Entry, Toc};
 use crate::header::{header_octets, interleaving_number};
-use crate::octets::octet_in;
+use crate::octets::{are_octets, octet_in};
 use amr_bits::BitSlice;
 use amr_frame::{Cell, Profile, bits_of, octets_of};
 use amr_guard::sorted_place;
+use spec_payload::PayloadRefusal;
 
 /// A payload that was read, in place: its octets, its table of contents and where its body begins.
 #[derive(Drop)]
@@ -35,12 +36,33 @@ pub struct PayloadView<'a> {
 }
 
 impl<'a> PayloadView<'a> {
+    ghost use Rattle.amr_toc.specs.Frames.{HasGathered, HasType, IsEntry, IsRun, ShowsFrame};
+    ghost use Rattle.amr_toc.specs.Told.{Accepts, Reads};
     ghost use Rattle.amr_toc.specs.Viewed.{checks_to, format_of, frame_in, is_damaged, octets_of, said, standing, viewed};
-    ghost use Rattle.amr_toc.specs.Walks.{StandsAt};
+    ghost use Rattle.amr_toc.specs.Walks.{StandsAt, begins_at};
+
+    /// What a reader tells of a payload's octets: their view, where it read their table and they aren't
+    /// refused, or why they are.
+    #[inline(always)]
+    pub fn told(
+        profile: &Profile,
+        octets: &'a [u8],
+        table: Result<Toc<'a>, PayloadRefusal>,
+    ) -> Result<PayloadView<'a>, PayloadRefusal>
+        requires valid { IsValid profile.now }
+        requires accepts { Accepts profile.now octets.now table }
+        ensures { Reads profile.now octets.now result }
+    {
+        are_octets(octets);
+        match table {
+            Ok(toc) => Ok(PayloadView::over(profile, octets, toc)),
+            Err(why) => Err(why),
+        }
+    }
 
     /// The view of a payload's octets, of which `toc` is the table of contents.
     #[inline(always)]
-    pub fn over(profile: &Profile, octets: &'a [u8], toc: Toc<'a>) -> PayloadView<'a>
+    fn over(profile: &Profile, octets: &'a [u8], toc: Toc<'a>) -> PayloadView<'a>
         requires valid { IsValid profile.now }
         requires accepted { payload_refusal profile.now octets.now ≡ None }
         requires table { listed toc ≡ toc_at profile.now octets.now }
@@ -55,6 +77,13 @@ impl<'a> PayloadView<'a> {
             toc,
             body,
         }
+    }
+
+    /// The octets of the payload, as they were read.
+    pub fn octets(&self) -> &'a [u8]
+        ensures { result.now ≡ octets_of self.now }
+    {
+        self.octets
     }
 
     /// The codec mode request, from 0 to 15.
@@ -114,9 +143,7 @@ impl<'a> PayloadView<'a> {
     /// Entry `at` of the table of contents, as it stands there.
     pub fn entry(&self, at: usize) -> Entry
         requires { at < length (viewed self.now).frames }
-        ensures small { result.ft ≤ 15 }
-        ensures ft { result.ft ≡ (frame_in (said self.now) at).ft }
-        ensures quality { result.q ≡ (frame_in (said self.now) at).q }
+        ensures entry { IsEntry self.now at result }
         ensures size { length (frame_in (said self.now) at).bits
             ≡ bits_in (format_of self.now).codec result.ft }
     {
@@ -133,15 +160,10 @@ impl<'a> PayloadView<'a> {
         }
         let ft = self.entry(at).ft;
         if !self.profile.sorting {
-            return self.check_differs(at, ft, self.run_of(at));
+            return self.check_differs(at, ft, self.run_from(at, ft, self.start_of(at)));
         }
         let gathered = self.gathered(at);
-        let bits = BitSlice {
-            octets: &gathered,
-            start: 0,
-            len: bits_of(self.profile.codec, ft),
-        };
-        self.check_differs(at, ft, bits)
+        self.check_differs(at, ft, self.run_in(at, ft, &gathered))
     }
 
     /// Octet `octet` of frame `at`. In an octet-aligned payload its fill bits are as they stand, in
@@ -184,8 +206,7 @@ impl<'a> PayloadView<'a> {
     /// Frame `at`, with Q = 0 where it is damaged.
     pub fn frame(&self, at: usize) -> Cell
         requires { at < length (viewed self.now).frames }
-        ensures frame { held result ≡ Some (frame_in (viewed self.now) at) }
-        ensures valid { IsCell (format_of self.now).codec result }
+        ensures { ShowsFrame self.now at result }
     {
         self.frame_from(at, self.entry(at), self.start_of(at))
     }
@@ -229,37 +250,22 @@ impl<'a> PayloadView<'a> {
 
     /// Frame `at`, which has this entry and begins at bit `start` where the octets aren't sorted.
     fn frame_from(&self, at: usize, entry: Entry, start: usize) -> Cell
-        requires frame { at < length (viewed self.now).frames }
-        requires small { entry.ft ≤ 15 }
-        requires ft { entry.ft ≡ (frame_in (said self.now) at).ft }
-        requires quality { entry.q ≡ (frame_in (said self.now) at).q }
-        requires start { start
-            ≡ self.now.body + bits_to self.now.profile (types_of (listed self.now.toc)) at }
-        ensures frame { held result ≡ Some (frame_in (viewed self.now) at) }
-        ensures valid { IsCell (format_of self.now).codec result }
+        requires entry { IsEntry self.now at entry }
+        requires start { start ≡ begins_at self.now at }
+        ensures { ShowsFrame self.now at result }
     {
         if !self.profile.sorting {
             return self.seen_as(at, entry, self.run_from(at, entry.ft, start));
         }
         let gathered = self.gathered(at);
-        let bits = BitSlice {
-            octets: &gathered,
-            start: 0,
-            len: bits_of(self.profile.codec, entry.ft),
-        };
-        self.seen_as(at, entry, bits)
+        self.seen_as(at, entry, self.run_in(at, entry.ft, &gathered))
     }
 
     /// Frame `at`, which has this entry and these bits, with Q = 0 where it is damaged.
     fn seen_as(&self, at: usize, entry: Entry, bits: BitSlice<'_>) -> Cell
-        requires frame { at < length (viewed self.now).frames }
-        requires small { entry.ft ≤ 15 }
-        requires ft { entry.ft ≡ (frame_in (said self.now) at).ft }
-        requires quality { entry.q ≡ (frame_in (said self.now) at).q }
-        requires bits { run bits ≡ (frame_in (said self.now) at).bits }
-        requires len { bits.len ≡ bits_in self.now.profile.codec entry.ft }
-        ensures frame { held result ≡ Some (frame_in (viewed self.now) at) }
-        ensures valid { IsCell (format_of self.now).codec result }
+        requires entry { IsEntry self.now at entry }
+        requires run { IsRun self.now at entry.ft bits }
+        ensures { ShowsFrame self.now at result }
     {
         let damaged = self.check_differs(at, entry.ft, bits);
         let q = entry.q && !damaged;
@@ -268,11 +274,7 @@ impl<'a> PayloadView<'a> {
 
     /// Whether frame `at`, which has this type and these bits, has a CRC, and it isn't the frame's.
     fn check_differs(&self, at: usize, ft: u8, bits: BitSlice<'_>) -> bool
-        requires frame { at < length (viewed self.now).frames }
-        requires small { ft ≤ 15 }
-        requires ft { ft ≡ (frame_in (said self.now) at).ft }
-        requires bits { run bits ≡ (frame_in (said self.now) at).bits }
-        requires len { bits.len ≡ bits_in self.now.profile.codec ft }
+        requires { IsRun self.now at ft bits }
         ensures { result ≡ is_damaged self.now at }
     {
         if !self.profile.crc {
@@ -302,23 +304,17 @@ impl<'a> PayloadView<'a> {
         requires frame { at < length (viewed self.now).frames }
         requires plain { self.now.profile.sorting ≡ false }
         ensures bits { run result ≡ (frame_in (said self.now) at).bits }
-        ensures lent { result.octets.now ≡ self.now.octets.now }
-        ensures len { result.len ≡ bits_in self.now.profile.codec (frame_in (said self.now) at).ft }
+        ensures lent { result.octets.now ≡ octets_of self.now }
     {
         self.run_from(at, self.entry(at).ft, self.start_of(at))
     }
 
     /// The bits of frame `at`, which has this type and begins at bit `start`, in a payload whose octets aren't sorted.
     fn run_from(&self, at: usize, ft: u8, start: usize) -> BitSlice<'a>
-        requires frame { at < length (viewed self.now).frames }
-        requires plain { self.now.profile.sorting ≡ false }
-        requires small { ft ≤ 15 }
-        requires ft { ft ≡ (frame_in (said self.now) at).ft }
-        requires start { start
-            ≡ self.now.body + bits_to self.now.profile (types_of (listed self.now.toc)) at }
-        ensures bits { run result ≡ (frame_in (said self.now) at).bits }
-        ensures lent { result.octets.now ≡ self.now.octets.now }
-        ensures len { result.len ≡ bits_in self.now.profile.codec (frame_in (said self.now) at).ft }
+        requires kind { HasType self.now at ft }
+        requires place { (self.now.profile.sorting ≡ false) × (start ≡ begins_at self.now at) }
+        ensures run { IsRun self.now at ft result }
+        ensures octets { result.octets.now ≡ octets_of self.now }
     {
         BitSlice {
             octets: self.octets,
@@ -327,11 +323,23 @@ impl<'a> PayloadView<'a> {
         }
     }
 
+    /// The bits of frame `at`, which has this type, in its octets, brought together.
+    fn run_in<'b>(&self, at: usize, ft: u8, gathered: &'b [u8; 60]) -> BitSlice<'b>
+        requires kind { HasType self.now at ft }
+        requires gathered { HasGathered self.now at gathered.now }
+        ensures { IsRun self.now at ft result }
+    {
+        BitSlice {
+            octets: gathered,
+            start: 0,
+            len: bits_of(self.profile.codec, ft),
+        }
+    }
+
     /// The first bit of frame `at` in a payload whose octets aren't sorted.
     fn start_of(&self, at: usize) -> usize
         requires { at < length (listed self.now.toc) }
-        ensures { result ≡ self.now.body
-            + bits_to self.now.profile (types_of (listed self.now.toc)) at }
+        ensures { result ≡ begins_at self.now at }
     {
         if self.profile.octet_aligned {
             self.body + 8 * octets_before(&self.profile, &self.toc, at)
@@ -344,8 +352,7 @@ impl<'a> PayloadView<'a> {
     fn gathered(&self, at: usize) -> [u8; 60]
         requires frame { at < length (viewed self.now).frames }
         requires sorted { self.now.profile.sorting ≡ true }
-        ensures { bits_at result 0 (length (frame_in (said self.now) at).bits)
-            ≡ (frame_in (said self.now) at).bits }
+        ensures { HasGathered self.now at result }
     {
         let counts = octet_counts(&self.profile, &self.toc);
         let counts = &counts[..self.toc.len()];

@@ -13,7 +13,8 @@ use Rattle.amr_frame.specs.Profiles.{group_bound}
 use Rattle.amr_frame.specs.Tables.{is_reserved}
 use Rattle.amr_frame.proofs.FirstLemmas.{none_of, none_first, not_when}
 use Rattle.spec_payload.specs.declared.refusal.PayloadRefusal.TheVariants as why
-use Rattle.spec_payload.specs.Reading.{head_bits, entry_bits, entry_fault, last_entry, entries, types, type_at, more_at, payload_refusal, need, where_grouped, ill, ilp}
+use Rattle.spec_payload.specs.Reading.{head_bits, entry_bits, entry_fault, last_entry, entries, types, type_at, more_at, payload_refusal, need, ill, ilp}
+use Rattle.spec_payload.specs.Rules.{where_grouped}
 use Rattle.spec_payload.specs.Values.{Value, IsValue, FitsGroup}
 use Rattle.payload_laws.proofs.Counts.{types_of}
 use Rattle.payload_laws.proofs.Entries.{more_after, frame_k, more_before, none_after}

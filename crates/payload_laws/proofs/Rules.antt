@@ -11,7 +11,8 @@ use Rattle.amr_frame.specs.Tables.{is_reserved}
 use Rattle.amr_frame.proofs.FirstLemmas.{first_none, when_none, or_false, or_true, is_none_of, three_none, third}
 use Rattle.spec_payload.specs.declared.refusal.PayloadRefusal.{PayloadRefusal}
 use Rattle.spec_payload.specs.declared.refusal.PayloadRefusal.TheVariants as why
-use Rattle.spec_payload.specs.Reading.{entries, entry_start, entry_fault, ends_table, last_entry, more_at, type_at, types, need, payload_refusal, where_grouped, ill, ilp}
+use Rattle.spec_payload.specs.Reading.{entries, entry_start, entry_fault, ends_table, last_entry, more_at, type_at, types, need, payload_refusal, ill, ilp}
+use Rattle.spec_payload.specs.Rules.{where_grouped}
 use Rattle.payload_laws.proofs.Ranges.{find_from, first_of_range}
 
 -- F of an entry that doesn't end the table

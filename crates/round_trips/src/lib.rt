@@ -1,5 +1,5 @@
 //! Laws that need both the readers and the writers of payloads, and the grammar. Each is the contract of a function that
-//! does nothing.
+//! changes nothing.
 #![tactic(auto)]
 
 mod again;

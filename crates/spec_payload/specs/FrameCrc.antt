@@ -1,5 +1,5 @@
--- The CRC of a frame (RFC 4867, 4.4.2.1, names its generator). That it starts at 0, takes the first bit
--- first and isn't changed at the end is this project's own.
+-- The CRC of a frame (RFC 4867, 4.4.2.1, names its generator). That it starts at 0, takes the first
+-- bit first and isn't changed at the end is this project's own.
 -- A list of bits is a polynomial over the two elements, its first bit that of the highest power.
 use Rattle.std.specs.Prelude.{◌≡◌, ℕ, zero, suc, Bool, true, false, cond, List, [], ◌∷◌, ◌++◌, length, replicate, drop}
 
@@ -31,7 +31,8 @@ pub record IsCrc (a r : List Bool) : Type 0 where
   pub as_long : length quotient ≡ length a
   pub product : a ++ r ≡ times_generator quotient
 
--- what long division leaves after n steps: the first bit goes, and with it the generator where it is 1
+-- what long division leaves after n steps: the first bit goes, and with it the generator where it
+-- is 1
 abbrev pub remainder : ℕ → List Bool → List Bool
 remainder zero w = w
 remainder (suc n) [] = []

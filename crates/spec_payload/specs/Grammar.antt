@@ -1,5 +1,5 @@
--- The payload formats (RFC 4867, 4.3 bandwidth-efficient, 4.4 octet-aligned), one relation between a
--- format, a value, the CRCs that the payload carries, and its octets.
+-- The payload formats (RFC 4867, 4.3 bandwidth-efficient, 4.4 octet-aligned), one relation between
+-- a format, a value, the CRCs that the payload carries, and its octets.
 use Rattle.std.specs.Prelude.{◌≡◌, ℕ, ◌-◌, ◌*◌, ◌<◌, Bool, true, false, cond, List, [], ◌∷◌, ◌++◌, length, map, filter, slice_index_or, take, flat_map, Option, Some, None}
 use Rattle.std.specs.List.{AllByRecursion}
 use Rattle.amr_bits.specs.Bits.{nat, bits_of, part, filled, number}
@@ -11,7 +11,8 @@ use Rattle.spec_payload.specs.FrameCrc.{crc_of}
 use Rattle.spec_payload.specs.RobustOrder.{Place, order}
 use Rattle.spec_payload.specs.Values.{Value, IsValue, has_bits, octet_counts}
 
--- an entry of the table of contents: F, the type, Q, and `gap` free bits; F = 1 where more entries follow
+-- an entry of the table of contents: F, the type, Q, and `gap` free bits; F = 1 where more entries
+-- follow
 abbrev pub entry : ℕ → Frame → Bool → List Mark
 entry gap f more = fixed (more ∷ nat 4 f.ft ++ f.q ∷ []) ++ free gap
 
@@ -28,18 +29,21 @@ interleaving_octet (Some most) v = fixed (nat 4 (v.stride - 1) ++ nat 4 v.index)
 
 -- one octet of a frame, the last being filled with free bits
 abbrev pub octet_at : List Frame → Place → List Mark
-octet_at frames p = part (8 * p.octet) 8 (padded (fixed (slice_index_or frames p.frame no_data).bits))
+octet_at frames p =
+    part (8 * p.octet) 8 (padded (fixed (slice_index_or frames p.frame no_data).bits))
 
 -- the bits of a bandwidth-efficient payload
 abbrev pub packed_layout : Value → List Mark
 packed_layout v =
-    padded (fixed (nat 4 v.cmr) ++ table 0 v.frames ++ flat_map (λ (f : Frame). fixed f.bits) v.frames)
+    padded (fixed (nat 4 v.cmr) ++ table 0 v.frames
+    ++ flat_map (λ (f : Frame). fixed f.bits) v.frames)
 
 -- the bits of an octet-aligned payload with these CRCs
 abbrev pub aligned_layout : Profile → Value → List ℕ → List Mark
 aligned_layout p v checks =
     fixed (nat 4 v.cmr) ++ free 4 ++ interleaving_octet p.interleaving v ++ table 2 v.frames
-    ++ fixed (bits_of checks) ++ flat_map (octet_at v.frames) (order p.sorting (octet_counts v.frames))
+    ++ fixed (bits_of checks)
+    ++ flat_map (octet_at v.frames) (order p.sorting (octet_counts v.frames))
 
 -- the bits of a payload, each fixed or free
 abbrev pub layout : Profile → Value → List ℕ → List Mark

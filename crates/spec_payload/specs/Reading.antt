@@ -1,17 +1,17 @@
 -- Which octets are no payload of a format and why, and what the others say: by places in the octets
--- (RFC 4867, 4.3 and 4.4). The order in which refusals are tested, P1 to P10, is this project's own.
-use Rattle.std.specs.Prelude.{ℕ, ◌+◌, ◌*◌, ◌/◌, ◌%◌, Bool, not, cond, ◌&&◌, ◌||◌, nat_lt, nat_eq, List, [], ◌∷◌, length, map, filter, take, slice_index, Option, Some, None, is_some, Result, Ok, Err, sum, find}
-use Rattle.std.specs.Option.{unwrap_or}
+-- (RFC 4867, 4.3 and 4.4). The order in which refusals are tested, P1 to P10, is this project's
+-- own.
+use Rattle.std.specs.Prelude.{ℕ, ◌+◌, ◌*◌, ◌/◌, ◌%◌, Bool, cond, ◌&&◌, nat_lt, nat_eq, List, [], ◌∷◌, length, map, filter, take, slice_index, Option, Some, None, is_some, Result, Ok, Err, sum}
 use Rattle.std.specs.List.{range_with_len, position_or_len}
 use Rattle.amr_bits.specs.Bits.{bit_at, number_at, octets_for}
 use Rattle.amr_frame.specs.declared.profile.Profile.{Profile}
-use Rattle.amr_frame.specs.First.{when, first}
+use Rattle.amr_frame.specs.First.{first}
 use Rattle.amr_frame.specs.Frames.{Frame}
 use Rattle.amr_frame.specs.Profiles.{group_bound}
-use Rattle.amr_frame.specs.Tables.{bits_in, octets_in, is_reserved}
+use Rattle.amr_frame.specs.Tables.{bits_in, octets_in}
 use Rattle.spec_payload.specs.declared.refusal.PayloadRefusal.{PayloadRefusal}
-use Rattle.spec_payload.specs.declared.refusal.PayloadRefusal.TheVariants as why
 use Rattle.spec_payload.specs.RobustOrder.{Place, order}
+use Rattle.spec_payload.specs.Rules.{empty, header_short, index_above, entry_rules, ends_with, first_end, channel_rest, group_too_large, body_short, body_long}
 use Rattle.spec_payload.specs.Seen.{seen}
 use Rattle.spec_payload.specs.Values.{Value}
 
@@ -35,19 +35,17 @@ type_at p octets k = number_at octets (entry_start p k + 1) 4
 abbrev pub quality_at : Profile → List ℕ → ℕ → Bool
 quality_at p octets k = bit_at octets (entry_start p k + 5)
 
--- what is wrong at entry k: it isn't whole, its type is reserved, or it is one too many
+-- what is wrong at entry k
 abbrev pub entry_fault : Profile → List ℕ → ℕ → Option PayloadRefusal
-entry_fault p octets k = first (
-    when (nat_lt (8 * length octets) (entry_start p (k + 1))) (why.TocUnended k)
-    ∷ when (is_reserved p.codec (type_at p octets k)) (why.ReservedType k (type_at p octets k))
-    ∷ when (nat_eq k (p.max_blocks * p.channels)) why.TooManyBlocks ∷ [])
+entry_fault p octets k =
+    entry_rules p (8 * length octets) (entry_start p (k + 1)) (type_at p octets k) k
 
 -- the table ends at the first entry that is wrong or has F = 0
 abbrev pub ends_table : Profile → List ℕ → ℕ → Bool
-ends_table p octets k = is_some (entry_fault p octets k) || not (more_at p octets k)
+ends_table p octets k = ends_with (entry_fault p octets k) (more_at p octets k)
 
 abbrev pub last_entry : Profile → List ℕ → ℕ
-last_entry p octets = unwrap_or (find (ends_table p octets) (range_with_len 0 (p.max_blocks * p.channels + 1))) 0
+last_entry p octets = first_end p (ends_table p octets)
 
 abbrev pub entries : Profile → List ℕ → ℕ
 entries p octets = last_entry p octets + 1
@@ -76,11 +74,6 @@ need p fts = cond p.octet_aligned
     (checks_start p fts + checks_count p fts + sum (map (octets_in p.codec) fts))
     (octets_for (entry_start p (length fts) + sum (map (bits_in p.codec) fts)))
 
--- a rule for formats that interleave, given the most blocks in a group
-abbrev pub where_grouped : {X : Type 0} → Option ℕ → (ℕ → Option X) → Option X
-where_grouped None rule = None
-where_grouped (Some most) rule = rule most
-
 -- the first rule that octets break: P1 to P10
 abbrev pub payload_refusal : Profile → List ℕ → Option PayloadRefusal
 payload_refusal p octets =
@@ -89,14 +82,14 @@ payload_refusal p octets =
     let blocks = entries p octets / p.channels in
     let group = group_bound p.interleaving in
     first (
-    when (nat_eq have 0) why.Empty
-    ∷ where_grouped group (λ most. when (nat_lt have 2) why.HeaderShort)
-    ∷ where_grouped group (λ most. when (nat_lt (ill octets) (ilp octets)) (why.IndexAboveLength (ill octets) (ilp octets)))
+    empty have
+    ∷ header_short group have
+    ∷ index_above group (ill octets) (ilp octets)
     ∷ entry_fault p octets (last_entry p octets)
-    ∷ when (nat_lt 0 (entries p octets % p.channels)) (why.ChannelRest (entries p octets))
-    ∷ where_grouped group (λ most. when (nat_lt most (blocks * (ill octets + 1))) (why.GroupTooLarge blocks (ill octets + 1)))
-    ∷ when (nat_lt have (need p fts)) (why.BodyShort (need p fts) have)
-    ∷ when (nat_lt (need p fts) have) (why.BodyLong (need p fts) have) ∷ [])
+    ∷ channel_rest p (entries p octets)
+    ∷ group_too_large group blocks (ill octets + 1)
+    ∷ body_short (need p fts) have
+    ∷ body_long (need p fts) have ∷ [])
 
 -- where bit i of frame k stands
 abbrev pub is_place : ℕ → ℕ → Place → Bool
@@ -104,7 +97,9 @@ is_place o f p = nat_eq p.octet o && nat_eq p.frame f
 
 abbrev pub frame_bit : Profile → List ℕ → List ℕ → ℕ → ℕ → Bool
 frame_bit p octets fts k i = cond p.octet_aligned
-    (bit_at octets (8 * (checks_start p fts + checks_count p fts + position_or_len (is_place (i / 8) k) (order p.sorting (map (octets_in p.codec) fts))) + i % 8))
+    (bit_at octets (8 * (checks_start p fts + checks_count p fts
+    + position_or_len (is_place (i / 8) k) (order p.sorting (map (octets_in p.codec) fts)))
+    + i % 8))
     (bit_at octets (entry_start p (length fts) + sum (map (bits_in p.codec) (take k fts)) + i))
 
 -- frame k of the payload
@@ -135,4 +130,5 @@ answered (Some r) v = Err r
 
 -- what octets say as a payload of the format, as it is seen, or why they are refused
 abbrev pub read_as : Profile → List ℕ → Result Value PayloadRefusal
-read_as p octets = answered (payload_refusal p octets) (seen p (value_at p octets) (checks_at p octets))
+read_as p octets =
+    answered (payload_refusal p octets) (seen p (value_at p octets) (checks_at p octets))

@@ -16,10 +16,12 @@ plain_order lengths =
     flat_map (λ f. map (λ o. place o f) (range_with_len 0 (slice_index lengths f)))
     (range_with_len 0 (length lengths))
 
--- the robust order: the first octets of all frames, then the second octets of all that have one, and so on
+-- the robust order: the first octets of all frames, then the second octets of all that have one,
+-- and so on
 abbrev pub robust_order : List ℕ → List Place
 robust_order lengths =
-    flat_map (λ o. map (λ f. place o f) (filter (λ f. nat_lt o (slice_index lengths f)) (range_with_len 0 (length lengths))))
+    flat_map (λ o. map (λ f. place o f)
+    (filter (λ f. nat_lt o (slice_index lengths f)) (range_with_len 0 (length lengths))))
     (range_with_len 0 (fold max 0 lengths))
 
 -- the order of a format that sorts, or doesn't

@@ -17,7 +17,8 @@ pub record Value : Type 0 where
 -- without interleaving the blocks follow one another; with it the group has at most so many blocks
 abbrev pub FitsGroup : Option ℕ → ℕ → Value → Type 0
 FitsGroup None blocks v = (v.stride ≡ 1) × (v.index ≡ 0)
-FitsGroup (Some most) blocks v = (1 ≤ v.stride) × (v.stride ≤ 16) × (v.index < v.stride) × (blocks * v.stride ≤ most)
+FitsGroup (Some most) blocks v =
+    (1 ≤ v.stride) × (v.stride ≤ 16) × (v.index < v.stride) × (blocks * v.stride ≤ most)
 
 -- a value of a format: its frames are whole blocks, at least one and at most the format's most
 pub record IsValue (p : Profile) (v : Value) : Type 0 where

@@ -2,7 +2,8 @@ use Rattle.std.proofs.Common.{◌≡◌, ℕ, ◌+◌, ◌*◌, ◌++◌, length
 use Rattle.std.proofs.lemmas.List.{length-map, append_assoc, take_all}
 use Rattle.amr_be.specs.Parts.{body_part, table_part}
 use Rattle.amr_be.proofs.Canonical.{length-text, text_is, table_is, body_most}
-use Rattle.amr_be.proofs.Counts.{few, types}
+use Rattle.amr_be.proofs.Counts.{types}
+use Rattle.amr_toc.proofs.Carried.{few}
 use Rattle.amr_bits.specs.Bits.{nat, filled, octets_for}
 use Rattle.amr_bits.specs.Written.{front}
 use Rattle.amr_frame.specs.Blocks.{frames_of}
@@ -12,14 +13,14 @@ use Rattle.payload_laws.proofs.Whole.{whole}
 use Rattle.amr_be.proofs.write.write_be.Goals as goal
 
 pub put_table-requires-clause-types : goal.put_table-requires-clause-types
-put_table-requires-clause-types c = types c.args.profile.now c.args.payload.now c.requires.payload
+put_table-requires-clause-types c = types c.args.profile.now c.args.payload.now c.requires.payload.carried
 
 pub put_table-requires-clause-fits : goal.put_table-requires-clause-fits
 put_table-requires-clause-fits c =
     let cells = c.args.payload.now.cells.now in
     let all = length-text c.args.profile.now (meant c.args.payload.now) c.requires.packed in
     let size = length-map cells frame_of in
-    let out = c.requires.size in
+    let out = c.requires.payload.size in
     let zero_is = c.new-at.ensures in
     let four = c.put.ensures.written in
     omega arith
@@ -29,7 +30,7 @@ put_bodies-requires-clause-fits c =
     let cells = c.args.payload.now.cells.now in
     let all = length-text c.args.profile.now (meant c.args.payload.now) c.requires.packed in
     let size = length-map cells frame_of in
-    let out = c.requires.size in
+    let out = c.requires.payload.size in
     let zero_is = c.new-at.ensures in
     let four = c.put.ensures.written in
     let table = c.put_table.ensures.written in
@@ -39,9 +40,9 @@ pub put_bodies-requires-clause-counts : goal.put_bodies-requires-clause-counts
 put_bodies-requires-clause-counts c =
     let p = c.args.profile.now in
     let cells = c.args.payload.now.cells.now in
-    let most = body_most p.codec (frames_of cells) c.requires.payload.value.frames in
+    let most = body_most p.codec (frames_of cells) c.requires.payload.carried.value.frames in
     let size = length-map cells frame_of in
-    let n = few p c.args.payload.now c.requires.payload c.entries_within.ensures.most in
+    let n = few p c.args.payload.now c.requires.payload.carried c.entries_within.ensures.most in
     let zero_is = c.new-at.ensures in
     let four = c.put.ensures.written in
     let table = c.put_table.ensures.written in
@@ -66,7 +67,7 @@ returns c =
     let four = c.put.ensures.written in
     let entries = c.put_table.ensures.written in
     let bodies = c.put_bodies.ensures.written in
-    let out = c.requires.size ∙ length-text p v c.requires.packed in
+    let out = c.requires.payload.size ∙ length-text p v c.requires.packed in
     let whole_size : w ≡ 4 + 6 * length v.frames + length body = omega arith in
     let count : octets_for w ≡ length c.args.out.now = ap octets_for whole_size ∙ sym out in
     sym (take_all (octets_for w) now (omega arith)) ∙ c.put_bodies.ensures.filled ∙ ap filled all ∙ sym (text_is p v c.requires.packed)

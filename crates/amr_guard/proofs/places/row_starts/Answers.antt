@@ -29,7 +29,7 @@ loop-octet-preserved c =
     let first = λ (k : ℕ). sum_by (λ x. min x k) ls in (
       length-set c.loop-octet.starts o c.loop-octet.start ∙ inv.0,
       omega (arith, inv.1, inv.3, sum-next ls o),
-      omega (arith, inv.2, inv.3, most, c.requires.frames),
+      omega (arith, inv.2, inv.3, most, c.requires.lengths.frames),
       omega (arith, inv.3, count-next ls o, c.counted-counts.ensures (o + 1) (omega arith)),
       λ k h. ap (λ v. get_or (set c.loop-octet.starts o v) k 0) inv.1 ∙ fill_by_more first c.loop-octet.starts o 0 (omega (arith, inv.0)) inv.4 k h,
     )

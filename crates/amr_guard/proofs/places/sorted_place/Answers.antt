@@ -13,7 +13,7 @@ is_rank c =
     ∙ next-rank c.args.lengths.now c.args.frame c.args.octet
 
 pub overflow_add-result : goal.overflow_add-result
-overflow_add-result c = omega (arith, is_rank c, rank-below c.args.lengths.now c.args.frame c.args.octet c.requires.exists, sum-bounded c.args.lengths.now c.requires.frames c.requires.short)
+overflow_add-result c = omega (arith, is_rank c, rank-below c.args.lengths.now c.args.frame c.args.octet c.requires.exists, sum-bounded c.args.lengths.now c.requires.lengths.frames c.requires.lengths.short)
 
 pub returns-clause-place : goal.returns-clause-place
 returns-clause-place c = is_rank c ∙ sym (robust-rank c.args.lengths.now c.args.frame c.args.octet c.requires.exists)

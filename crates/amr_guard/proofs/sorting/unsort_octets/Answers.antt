@@ -9,7 +9,7 @@ returns-clause-octets c =
     agree_all c.args.lengths.now c.loop-frame.out c.args.sorted.now c.loop-frame.start (inv.0 ∙ ap sum (take_all c.loop-frame.frame c.args.lengths.now (omega arith))) inv.3
 
 pub returns-clause-sorts_back : goal.returns-clause-sorts_back
-returns-clause-sorts_back c = sym (agree_sorted c.args.lengths.now c.loop-frame.out c.args.sorted.now c.requires.sorted (returns-clause-octets c))
+returns-clause-sorts_back c = sym (agree_sorted c.args.lengths.now c.loop-frame.out c.args.sorted.now c.requires.octets.after (returns-clause-octets c))
 
 pub returns-clause-undoes_sorting : goal.returns-clause-undoes_sorting
 returns-clause-undoes_sorting c plain l e = sorted_one c.args.lengths.now c.loop-frame.out plain c.loop-frame.invariant.1 l (returns-clause-sorts_back c ∙ e)

@@ -9,23 +9,23 @@ use Rattle.amr_oa.proofs.write.write_oa.Goals as goal
 
 pub put_header-table-requires-clause-fits : goal.put_header-table-requires-clause-fits
 put_header-table-requires-clause-fits c =
-    let all = length-text c.args.profile.now (meant c.args.payload.now) c.requires.aligned c.requires.payload.value in
-    let out = c.requires.size in
+    let all = length-text c.args.profile.now (meant c.args.payload.now) c.requires.aligned c.requires.payload.carried.value in
+    let out = c.requires.payload.size in
     omega arith
 
 pub put_table-checks-requires-clause-fits : goal.put_table-checks-requires-clause-fits
 put_table-checks-requires-clause-fits c =
-    let all = length-text c.args.profile.now (meant c.args.payload.now) c.requires.aligned c.requires.payload.value in
+    let all = length-text c.args.profile.now (meant c.args.payload.now) c.requires.aligned c.requires.payload.carried.value in
     let size = length-map c.args.payload.now.cells.now frame_of in
-    let out = c.requires.size in
+    let out = c.requires.payload.size in
     let head = c.put_header-table.ensures.at in
     omega arith
 
 pub put_checks-body-requires-clause-fits : goal.put_checks-body-requires-clause-fits
 put_checks-body-requires-clause-fits c =
-    let all = length-text c.args.profile.now (meant c.args.payload.now) c.requires.aligned c.requires.payload.value in
+    let all = length-text c.args.profile.now (meant c.args.payload.now) c.requires.aligned c.requires.payload.carried.value in
     let size = length-map c.args.payload.now.cells.now frame_of in
-    let out = c.requires.size in
+    let out = c.requires.payload.size in
     let head = c.put_header-table.ensures.at in
     let table = c.put_table-checks.ensures.at in
     omega arith
@@ -33,10 +33,10 @@ put_checks-body-requires-clause-fits c =
 pub put_bodies-requires : goal.put_bodies-requires
 put_bodies-requires c =
     let v = meant c.args.payload.now in
-    let all = length-text c.args.profile.now v c.requires.aligned c.requires.payload.value in
+    let all = length-text c.args.profile.now v c.requires.aligned c.requires.payload.carried.value in
     let size = length-map c.args.payload.now.cells.now frame_of in
     let body = length-body c.args.profile.now.sorting v.frames in
-    let out = c.requires.size in
+    let out = c.requires.payload.size in
     let head = c.put_header-table.ensures.at in
     let table = c.put_table-checks.ensures.at in
     let checks = c.put_checks-body.ensures.at in
@@ -47,10 +47,10 @@ returns c =
     let p = c.args.profile.now in
     let v = meant c.args.payload.now in
     let now = c.put_bodies.new.out in
-    let all = length-text p v c.requires.aligned c.requires.payload.value in
+    let all = length-text p v c.requires.aligned c.requires.payload.carried.value in
     let size = length-map c.args.payload.now.cells.now frame_of in
     let body = length-body p.sorting v.frames in
-    let out = c.requires.size in
+    let out = c.requires.payload.size in
     let head = c.put_header-table.ensures.at in
     let table = c.put_table-checks.ensures.at in
     let checks = c.put_checks-body.ensures.at in
@@ -58,4 +58,4 @@ returns c =
     let written : now ≡ written_as p v =
     sym (take_all (c.put_checks-body.result + length b) now (omega arith)) ∙ c.put_bodies.ensures
     ∙ ap (λ (xs : List ℕ). xs ++ b) (c.put_checks-body.ensures.octets ∙ ap (λ (xs : List ℕ). xs ++ checks_part p v.frames) (c.put_table-checks.ensures.octets ∙ ap (λ (xs : List ℕ). xs ++ table_part v.frames) c.put_header-table.ensures.octets)) in
-    sym (filled_octets now c.are_octets.ensures) ∙ ap (λ (xs : List ℕ). filled (bits_of xs)) written ∙ sym (text_is p v c.requires.aligned c.requires.payload.value)
+    sym (filled_octets now c.are_octets.ensures) ∙ ap (λ (xs : List ℕ). filled (bits_of xs)) written ∙ sym (text_is p v c.requires.aligned c.requires.payload.carried.value)

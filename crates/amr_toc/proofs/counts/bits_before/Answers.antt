@@ -14,8 +14,8 @@ overflow_add-bits c =
     let count = listed_count c.args.toc.now in
     omega (arith, c.bits_of-bits.ensures)
 
-pub returns-clause-sum : goal.returns-clause-sum
-returns-clause-sum c =
+pub returns-clause-bits : goal.returns-clause-bits
+returns-clause-bits c =
     let codec = c.args.profile.now.codec in
     let es = listed c.args.toc.now in
     let e : c.loop-k.k ≡ c.args.at = omega arith in

@@ -14,8 +14,8 @@ overflow_add-octets c =
     let count = listed_count c.args.toc.now in
     omega (arith, c.octets_of-octets.ensures)
 
-pub returns-clause-sum : goal.returns-clause-sum
-returns-clause-sum c =
+pub returns-clause-octets : goal.returns-clause-octets
+returns-clause-octets c =
     let codec = c.args.profile.now.codec in
     let es = listed c.args.toc.now in
     let e : c.loop-k.k ≡ c.args.at = omega arith in

@@ -23,12 +23,12 @@ returns-then-not-bit-clause-count c =
     let k = c.loop-at.at in
     ap (λ n. n + 1) (sym (last_is p w bits k c.loop-at-test.true c.loop-at.invariant (stopped (fault_of p w bits k) (more_of w bits k) (c.bit.ensures.bits ∙ c.if-not-bit.true))))
 
-pub returns-then-not-bit-clause-few : goal.returns-then-not-bit-clause-few
-returns-then-not-bit-clause-few c =
+pub returns-then-not-bit-clause-table : goal.returns-then-not-bit-clause-table
+returns-then-not-bit-clause-table c =
     let k = c.loop-at.at in
     let most = c.args.profile.now.max_blocks * c.args.profile.now.channels in
     let few : k ≡ most → ⊥ = c.in_default.ensures.few in
-    omega (arith, few)
+    record { wide = c.requires.wide; some = omega arith; most = omega (arith, few); whole = c.in_default.ensures.whole }
 
 pub returns-then-not-bit-clause-accepted : goal.returns-then-not-bit-clause-accepted
 returns-then-not-bit-clause-accepted c =

@@ -7,22 +7,15 @@ use Rattle.amr_toc.specs.Table.{entry_of}
 use Rattle.amr_toc.proofs.Sizes.{four_small, listed_count}
 use Rattle.amr_toc.proofs.entry.Toc.entry.Goals as goal
 
-pub entry_at-requires-clause-at : goal.entry_at-requires-clause-at
-entry_at-requires-clause-at c =
+pub entry_at-requires : goal.entry_at-requires
+entry_at-requires c =
     let toc = c.args.self.now in
     let count = listed_count toc in
     let most = toc.most in
     let h = c.requires in
-    omega arith
-
-pub entry_at-requires-clause-whole : goal.entry_at-requires-clause-whole
-entry_at-requires-clause-whole c =
-    let toc = c.args.self.now in
-    let count = listed_count toc in
-    let h = c.requires in
     let below : (c.args.at + 1) * toc.width ≤ toc.entries * toc.width = mul-le-mul_right toc.width (omega arith) in
     let whole = toc.whole in
-    omega arith
+    record { wide = record { low = toc.low; high = toc.high }; few = omega arith; whole = omega arith }
 
 pub returns-clause-ft : goal.returns-clause-ft
 returns-clause-ft c =

@@ -31,6 +31,6 @@ returns c =
     let f = get_or (value_at v.profile v.octets.now).frames c.args.at no_data in
     let n : c.len.result ≡ length f.bits = sym c.len.ensures.bits ∙ ap length c.requires.bits in
     let some = c.if-len-eq0.false in
-    let due = c.check_over.ensures ∙ (λ i. number (crc_of (take (class_a_in v.profile.codec (c.requires.ft i)) (c.requires.bits i)))) in
+    let due = c.check_over.ensures ∙ (λ i. number (crc_of (take (class_a_in v.profile.codec (c.requires.kind.as_said i)) (c.requires.bits i)))) in
     (λ i. not (eqb (c.check_sent.ensures i) (due i)))
     ∙ compared v.profile.crc (has_bits f) _ c.if-not-self.false (lt-ltb 0 (length f.bits) (omega (arith, some)))

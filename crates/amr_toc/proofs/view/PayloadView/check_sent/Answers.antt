@@ -15,7 +15,7 @@ filled_before-requires c =
 pub overflow_add-result-2 : goal.overflow_add-result-2
 overflow_add-result-2 c =
     let head = c.header_octets.ensures.most in
-    let many = c.len.ensures.most in
+    let many = c.len.ensures.few.1 in
     let before = c.filled_before.ensures.most in
     let h = in_table c.args.self.now.profile c.args.self.now.octets.now (listed c.args.self.now.toc) c.args.at c.args.self.now.table c.requires.frame in
     let few = c.args.self.now.toc.most in

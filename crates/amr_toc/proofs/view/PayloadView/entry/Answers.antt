@@ -10,25 +10,23 @@ use Rattle.amr_toc.proofs.view.PayloadView.entry.Goals as goal
 pub entry-requires : goal.entry-requires
 entry-requires c = let v = c.args.self.now in in_table v.profile v.octets.now (listed v.toc) c.args.at v.table c.requires
 
-pub returns-clause-ft : goal.returns-clause-ft
-returns-clause-ft c =
+pub returns-clause-entry : goal.returns-clause-entry
+returns-clause-entry c =
     let v = c.args.self.now in
     let p = v.profile in
     let octets = v.octets.now in
     let at = c.args.at in
-    let h = in_table p octets (listed v.toc) at v.table c.requires in
     let k = in_entries p octets (listed v.toc) at v.table c.requires in
-    ap (λ (x : Entry). x.ft) (c.entry.ensures.entry ∙ entry_is p octets (listed v.toc) at c.entry.result v.table h) ∙ sym (type_is p octets at k) ∙ sym (ap (λ (f : Frame). f.ft) (frame_is p octets at k))
-
-pub returns-clause-quality : goal.returns-clause-quality
-returns-clause-quality c =
-    let v = c.args.self.now in
-    let p = v.profile in
-    let octets = v.octets.now in
-    let at = c.args.at in
-    let h = in_table p octets (listed v.toc) at v.table c.requires in
-    let k = in_entries p octets (listed v.toc) at v.table c.requires in
-    ap (λ (x : Entry). x.q) (c.entry.ensures.entry ∙ entry_is p octets (listed v.toc) at c.entry.result v.table h) ∙ sym (ap (λ (f : Frame). f.q) (frame_is p octets at k))
+    let e = c.entry.ensures.entry ∙ entry_is p octets (listed v.toc) at c.entry.result v.table (in_table p octets (listed v.toc) at v.table c.requires) in
+    let f = sym (frame_is p octets at k) in
+    record {
+      kind = record {
+        exists = c.requires;
+        small = c.entry.ensures.ft;
+        as_said = ap (λ (x : Entry). x.ft) e ∙ sym (type_is p octets at k) ∙ ap (λ (f : Frame). f.ft) f;
+      };
+      quality = ap (λ (x : Entry). x.q) e ∙ ap (λ (f : Frame). f.q) f;
+    }
 
 pub returns-clause-size : goal.returns-clause-size
 returns-clause-size c =

@@ -12,3 +12,9 @@ returns-clause-said c = let v = c.args.self.now in c.len.ensures.entries ∙ ap 
 
 pub returns-clause-value : goal.returns-clause-value
 returns-clause-value c = let v = c.args.self.now in viewed_value v.profile v.octets.now v.valid v.accepted
+
+pub returns-clause-some : goal.returns-clause-some
+returns-clause-some c = c.len.ensures.few.0
+
+pub returns-clause-most : goal.returns-clause-most
+returns-clause-most c = c.len.ensures.few.1

@@ -27,7 +27,7 @@ returns-clause-stands c =
     let at = c.args.at in
     let ft : get_or (types_of es) at 0 ≡ c.entry-entry.result.ft =
     ap (λ fts. get_or fts at 0) (types_are p octets es v.table)
-    ∙ sym (c.entry-entry.ensures.ft ∙ ap (λ (f : Frame). f.ft) (frame_is p octets at (in_entries p octets es at v.table c.requires.frame))) in
+    ∙ sym (c.entry-entry.ensures.entry.kind.as_said ∙ ap (λ (f : Frame). f.ft) (frame_is p octets at (in_entries p octets es at v.table c.requires.frame))) in
     let inside : at < length (types_of es) = subst (λ n. at < n) (sym (length-map es (λ (e : Entry). e.ft))) (in_table p octets es at v.table c.requires.frame) in
     let more = walk_goes_on p (types_of es) at inside in
     let here = ap (room_in p) ft in

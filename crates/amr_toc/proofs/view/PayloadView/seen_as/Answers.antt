@@ -11,18 +11,20 @@ use Rattle.amr_toc.proofs.view.PayloadView.seen_as.Goals.{then-entry, else-entry
 pub from_bits-requires-clause-not_reserved : goal.from_bits-requires-clause-not_reserved
 from_bits-requires-clause-not_reserved c =
     let v = c.args.self.now in
-    let k = in_entries v.profile v.octets.now (listed v.toc) c.args.at v.table c.requires.frame in
-    ap (is_reserved v.profile.codec) c.requires.ft ∙ (known v.profile v.octets.now c.args.at v.accepted k).known
+    let k = in_entries v.profile v.octets.now (listed v.toc) c.args.at v.table c.requires.entry.kind.exists in
+    ap (is_reserved v.profile.codec) c.requires.entry.kind.as_said ∙ (known v.profile v.octets.now c.args.at v.accepted k).known
 
-pub returns-clause-frame : goal.returns-clause-frame
-returns-clause-frame c =
+pub returns : goal.returns
+returns c =
     let v = c.args.self.now in
-    let k = in_entries v.profile v.octets.now (listed v.toc) c.args.at v.table c.requires.frame in
+    let k = in_entries v.profile v.octets.now (listed v.toc) c.args.at v.table c.requires.entry.kind.exists in
     let e = c.args.entry in
     let d = c.check_differs-damaged in
     let q : c.if-entry.q ≡ (e.q && not d.result) = elim c.if-entry.branch [
       | then-entry w ↦ q_kept c.if-entry.q e.q d.result w.if-entry.true w.q-is
       | else-entry w ↦ q_lacks c.if-entry.q e.q d.result w.if-entry.false (w.q-is ∙ w.if-entry.false)
     ] in
-    c.from_bits.ensures.frame
-    ∙ ap Some (shown_is v.profile v.octets.now c.args.at e.ft c.if-entry.q e.q d.result _ k c.requires.ft c.requires.quality d.ensures q c.requires.bits)
+    record {
+      frame = c.from_bits.ensures.frame ∙ ap Some (shown_is v.profile v.octets.now c.args.at e.ft c.if-entry.q e.q d.result _ k c.requires.entry.kind.as_said c.requires.entry.quality d.ensures q c.requires.run.bits);
+      valid = c.from_bits.ensures.valid;
+    }

@@ -11,20 +11,18 @@ use Rattle.amr_toc.proofs.Sizes.{sizes_short, listed_count}
 use Rattle.amr_toc.proofs.Standing.{octet_sorted}
 use Rattle.amr_toc.proofs.view.PayloadView.sorted_octet.Goals as goal
 
-pub sorted_place-requires-clause-short : goal.sorted_place-requires-clause-short
-sorted_place-requires-clause-short c =
-    let v = c.args.self.now in
-    subst (All (λ l. l ≤ 60)) (sym c.requires.counts) (sizes_short v.profile.codec (types_of (listed v.toc)))
-
-pub sorted_place-requires-clause-frames : goal.sorted_place-requires-clause-frames
-sorted_place-requires-clause-frames c =
+pub sorted_place-requires-clause-lengths : goal.sorted_place-requires-clause-lengths
+sorted_place-requires-clause-lengths c =
     let v = c.args.self.now in
     let counts = c.args.counts.now in
     let fts = types_of (listed v.toc) in
     let long : length counts ≡ length (listed v.toc) = ap length c.requires.counts ∙ length-map fts (octets_in v.profile.codec) ∙ length-map (listed v.toc) (λ (e : Entry). e.ft) in
     let few = v.toc.most in
     let count = listed_count v.toc in
-    omega arith
+    record {
+      frames = omega arith;
+      short = subst (All (λ l. l ≤ 60)) (sym c.requires.counts) (sizes_short v.profile.codec fts);
+    }
 
 pub overflow_add-result : goal.overflow_add-result
 overflow_add-result c =
