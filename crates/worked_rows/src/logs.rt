@@ -24,9 +24,9 @@ pub fn counts_of_sessions()
 /// The counts of a recording: each record counts once, under the first that holds.
 pub fn counts_of_recordings()
     ensures apart { counts_of (recording packed 256) ([] ∷ (7 ∷ []) ∷ rtp 0 0 0 seven ∷ rtp 1 160 0 (0xF3 ∷ 0xC0 ∷ zeros 31) ∷ rtp 1 161 0 seven ∷ rtp 1 160 1 seven ∷ [])
-        ≡ record { packets = 6; null = 1; rtp = 1; other_type = 0; payload = 1; place = 2; late = 0; copies = 0; blocks = 1; sent = 0 } }
+        ≡ record { packets = 6; null = 1; rtp = 1; other_type = 0; payload = 1; place = 2; late = 0; copies = 0; blocks = 1; sent = 0; refused = record { items = [] } } }
     ensures other_type { counts_of (record (recording packed 256) { asked = Some 97 }) (rtp 0 0 0 seven ∷ rtp 1 160 0 [] ∷ [])
-        ≡ record { packets = 2; null = 0; rtp = 0; other_type = 2; payload = 0; place = 0; late = 0; copies = 0; blocks = 0; sent = 0 } }
+        ≡ record { packets = 2; null = 0; rtp = 0; other_type = 2; payload = 0; place = 0; late = 0; copies = 0; blocks = 0; sent = 0; refused = record { items = [] } } }
 {}
 
 /// How a recording ends, and what it has written then.
