@@ -8,7 +8,7 @@ ghost use Rattle.amr_cli.specs.Host.{HasRun, NotRun, line_without_words, status_
 ghost use Rattle.amr_cli.specs.Noted.{Noted};
 ghost use Rattle.amr_cli.specs.Runs.{SameSink, run_of};
 ghost use Rattle.amr_cli.specs.Statuses.{number_for};
-ghost use Rattle.command_words.specs.Words.{texts};
+ghost use Rattle.spec_words.specs.Words.{texts};
 ghost use Rattle.spec_run.specs.Flows.{written_to};
 
 use crate::run::{note, note_usage, run_gateway};

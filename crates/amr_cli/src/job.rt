@@ -1,7 +1,7 @@
 ghost use Rattle.std.specs.Prelude.{◌≡◌, IfSome};
 ghost use Rattle.amr_cli.specs.Jobs.{IsServed, job_of, record_job as job_for};
 ghost use Rattle.command_words.specs.Jobs.{AreWithin};
-ghost use Rattle.command_words.specs.Words.{texts};
+ghost use Rattle.spec_words.specs.Words.{texts};
 
 use amr_frame::Profile;
 use amr_gateway::RecordJob;

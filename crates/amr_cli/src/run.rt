@@ -5,7 +5,7 @@ ghost use Rattle.amr_cli.specs.Noted.{Noted};
 ghost use Rattle.amr_cli.specs.Runs.{Notes, NotesPart, PutsOut, Ran, SameSink};
 ghost use Rattle.amr_cli.specs.Runs.{StopsReading, StopsWriting, run_of};
 ghost use Rattle.amr_cli.specs.Statuses.{EndsAs};
-ghost use Rattle.command_words.specs.Words.{texts};
+ghost use Rattle.spec_words.specs.Words.{texts};
 ghost use Rattle.run_report.specs.Lines.{notes_of, usage_line};
 ghost use Rattle.spec_run.specs.Flows.{read_from, written_to};
 ghost use Rattle.spec_run.specs.Meanings.{Leaves};

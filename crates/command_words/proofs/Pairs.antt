@@ -2,7 +2,7 @@
 use Rattle.std.proofs.Common.{◌≡◌, ◌<◌, Bool, ◌||◌, List, [], ◌∷◌, map, length, String, ap, refl, arith}
 use Rattle.std.specs.List.{list_any}
 use Rattle.std.specs.declared.alloc.Global.{Global}
-use Rattle.command_words.specs.Words.{texts, pairs}
+use Rattle.spec_words.specs.Words.{texts, pairs}
 
 -- of one word there is no pair
 pub pairs_short : (w : List (String Global)) → length w < 2 → pairs (texts w) ≡ []

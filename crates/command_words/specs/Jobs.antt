@@ -5,7 +5,7 @@ use Rattle.command_words.specs.declared.command.Command.TheVariants.{Record}
 use Rattle.command_words.specs.declared.command.RecordWords.{RecordWords}
 use Rattle.command_words.specs.Options.{are_options, codec_at, number_at, number_or_default}
 use Rattle.command_words.specs.Table.{record_name, codec, channels, pt, limit, window, reach, max_blocks, IsWithin}
-use Rattle.command_words.specs.Words.{Pair, pairs}
+use Rattle.spec_words.specs.Words.{Pair, pairs}
 
 -- what the options ask of `record`, where the codec is given
 abbrev pub record_of : List Pair → Option RecordWords

@@ -3,4 +3,3 @@ pub mod Options
 pub mod Rows
 pub mod Table
 pub mod Values
-pub mod Words

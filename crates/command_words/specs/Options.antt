@@ -3,8 +3,9 @@ use Rattle.std.specs.Prelude.{ℕ, Bool, ◌&&◌, List, length, ◌%◌, nat_eq
 use Rattle.std.specs.List.{list_all}
 use Rattle.amr_frame.specs.declared.codec.Codec.{Codec}
 use Rattle.command_words.specs.Table.{Row, is_allowed}
-use Rattle.command_words.specs.Values.{number_among, codec_named}
-use Rattle.command_words.specs.Words.{Pair, pairs, value_of, all_differ}
+use Rattle.command_words.specs.Values.{number_among}
+use Rattle.spec_words.specs.Numbers.{codec_named}
+use Rattle.spec_words.specs.Words.{Pair, pairs, value_of, all_differ}
 
 -- a command may have each option with its value
 abbrev pub are_allowed : List ℕ → List Pair → Bool

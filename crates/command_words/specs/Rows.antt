@@ -1,7 +1,7 @@
 -- The rows of the table and the options as the code has them.
 use Rattle.std.specs.Prelude.{List, map}
 use Rattle.command_words.specs.Table.{Row, row}
-use Rattle.command_words.specs.Words.{Pair, pairs, texts}
+use Rattle.spec_words.specs.Words.{Pair, pairs, texts}
 use Rattle.command_words.specs.declared.options.Options.{Options}
 use Rattle.command_words.specs.declared.table.Row.{Row as CodeRow}
 

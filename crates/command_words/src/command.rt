@@ -1,5 +1,5 @@
 ghost use Rattle.std.specs.Prelude.{◌≡◌, IfSome};
-ghost use Rattle.command_words.specs.Words.{texts};
+ghost use Rattle.spec_words.specs.Words.{texts};
 ghost use Rattle.command_words.specs.Rows.{given_in};
 ghost use Rattle.command_words.specs.Jobs.{record_of, asked_of, command_of, AreWithin, HasValues};
 

@@ -1,5 +1,5 @@
 ghost use Rattle.std.specs.Prelude.{◌≡◌, IfSome, is_some};
-ghost use Rattle.command_words.specs.Words.{texts, pairs};
+ghost use Rattle.spec_words.specs.Words.{texts, pairs};
 ghost use Rattle.command_words.specs.Table.{IsWithin, HasDefault};
 ghost use Rattle.command_words.specs.Rows.{row_of, given_in};
 ghost use Rattle.command_words.specs.Options.{are_allowed, are_options};

@@ -1,8 +1,10 @@
 ghost use Rattle.std.specs.Prelude.{◌≡◌, IfSome};
 ghost use Rattle.std.specs.Str.{all_ascii_digits};
 ghost use Rattle.command_words.specs.declared.values.Values.TheVariants.{Numbers};
-ghost use Rattle.command_words.specs.Values.{IsAmong, is_among, codec_named};
-ghost use Rattle.command_words.specs.Values.{is_number, number_of, number_among};
+ghost use Rattle.command_words.specs.Values.{IsAmong, is_among};
+ghost use Rattle.spec_words.specs.Numbers.{codec_named};
+ghost use Rattle.command_words.specs.Values.{number_among};
+ghost use Rattle.spec_words.specs.Numbers.{is_number, number_of};
 
 use amr_frame::Codec;
 

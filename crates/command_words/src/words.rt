@@ -1,5 +1,5 @@
 ghost use Rattle.std.specs.Prelude.{◌≡◌, option_copied};
-ghost use Rattle.command_words.specs.Words.{texts, pairs, value_of, all_differ};
+ghost use Rattle.spec_words.specs.Words.{texts, pairs, value_of, all_differ};
 
 /// The word behind an option, where the option stands among the pairs.
 pub fn value_of<'a>(words: &'a [String], option: &str) -> Option<&'a str>

@@ -58,7 +58,7 @@ abbrev packet_part : Listing → ℕ → Result RtpPacket RtpRefusal → List �
 packet_part l mode (Err why) = refused (rtp_refusal_text why)
 packet_part l mode (Ok packet) = head_text packet ++ payload_part l mode packet
 
-abbrev record_part : Listing → ℕ → List ℕ → List ℕ
+abbrev pub record_part : Listing → ℕ → List ℕ → List ℕ
 record_part l mode [] = codes " null\n"
 record_part l mode (o ∷ octets) = packet_part l mode (rtp_of (o ∷ octets))
 

@@ -1,6 +1,4 @@
 pub mod Given
-pub mod Jobs
 pub mod Numbers
-pub mod Plans
 pub mod Table
 pub mod Words

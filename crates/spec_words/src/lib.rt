@@ -1,3 +1,3 @@
-//! The words of the command line: the table of options, the job that words ask for, and what it
-//! means: definitions alone. All of it is this project's own.
+//! The words of the command line: pairs of an option and its value, and the table of options:
+//! definitions alone. All of it is this project's own.
 #![tactic(auto)]

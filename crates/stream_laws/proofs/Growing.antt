@@ -17,7 +17,7 @@ use Rattle.store_laws.proofs.Longer.{IsFront}
 use Rattle.store_laws.proofs.Showing.{blocks_stay}
 
 -- a front of packets is a front of their log
-logged : (front all : List RtpPacket) → IsFront front all → IsFront (log_of_packets front) (log_of_packets all)
+pub logged : (front all : List RtpPacket) → IsFront front all → IsFront (log_of_packets front) (log_of_packets all)
 logged front all f = (
   log_of_packets f.0,
   ap log_of_packets f.1 ∙ ap log_of (map-append written front f.0) ∙ flat_map-append framed (map written front) (map written f.0),

@@ -9,7 +9,7 @@ use Rattle.spec_record.specs.Recording.{Recording}
 use Rattle.spec_run.specs.Meanings.{Meaning}
 use Rattle.spec_sending.specs.declared.plan.SendPlan.{SendPlan}
 use Rattle.spec_session.specs.Session.{rules_of}
-use Rattle.spec_words.specs.Jobs.{Job, job_of}
+use Rattle.spec_jobs.specs.Jobs.{Job, job_of}
 
 -- what the words of a line ask for, which stand between single spaces
 abbrev pub asks : List ℕ → Option Job

@@ -2,8 +2,8 @@
 ghost use Rattle.std.specs.Prelude.{◌≡◌, ◌∷◌, ◌++◌, [], None, Some, codes, false, true};
 ghost use Rattle.amr_frame.specs.declared.codec.Codec.TheVariants.{AmrWb};
 ghost use Rattle.spec_session.specs.Session.{rules_of};
-ghost use Rattle.spec_words.specs.Jobs.{AnswerOffer, ConvertLog, ListLog};
-ghost use Rattle.spec_words.specs.Jobs.{RecordLog, RunTrial, StreamFile};
+ghost use Rattle.spec_jobs.specs.Jobs.{AnswerOffer, ConvertLog, ListLog};
+ghost use Rattle.spec_jobs.specs.Jobs.{RecordLog, RunTrial, StreamFile};
 ghost use Rattle.words_rows.specs.Words.{asks, desk, eight, interleaved, most, plain};
 ghost use Rattle.words_rows.specs.Words.{recorded, sent, wants, wide_received, wide_sent};
 

@@ -4,8 +4,8 @@ ghost use Rattle.refusals.specs.declared.offer.OfferRefusal.TheVariants.{NoAudio
 ghost use Rattle.refusals.specs.declared.store.StoreRefusal.TheVariants.{Magic};
 ghost use Rattle.run_report.specs.declared.end.RunEnd.TheVariants.{File, LimitReached, LogCut, Sdp};
 ghost use Rattle.run_report.specs.declared.report.CountLines.TheVariants as lines;
-ghost use Rattle.spec_words.specs.Jobs.{AnswerOffer, ConvertLog, ListLog};
-ghost use Rattle.spec_words.specs.Jobs.{RecordLog, StreamFile, meaning_of};
+ghost use Rattle.spec_jobs.specs.Jobs.{AnswerOffer, ConvertLog, ListLog};
+ghost use Rattle.spec_jobs.specs.Jobs.{RecordLog, StreamFile, meaning_of};
 ghost use Rattle.words_rows.specs.Words.{desk, eight, most, plain, recorded, sent, wants};
 
 /// How each job ends on little, and which lines it notes.

@@ -1,6 +1,6 @@
 // Words that give no job.
 ghost use Rattle.std.specs.Prelude.{◌≡◌, [], None, codes};
-ghost use Rattle.spec_words.specs.Jobs.{job_of};
+ghost use Rattle.spec_jobs.specs.Jobs.{job_of};
 ghost use Rattle.words_rows.specs.Words.{asks};
 
 /// Words that aren't a command and pairs of its options, each once, or that lack the codec.

@@ -4,7 +4,7 @@ use Rattle.std.specs.Process.{exit_status}
 use Rattle.std.specs.declared.alloc.Global.{Global}
 use Rattle.amr_cli.specs.Host.{HasRun}
 use Rattle.amr_cli.specs.Runs.{run_of}
-use Rattle.command_words.specs.Words.{texts}
+use Rattle.spec_words.specs.Words.{texts}
 use Rattle.amr_cli.proofs.host.run_started.Goals as goal
 
 -- the host gave words, since there are some

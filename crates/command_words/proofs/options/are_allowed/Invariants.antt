@@ -1,6 +1,6 @@
 use Rattle.std.proofs.Common.{◌≡◌, length}
 use Rattle.command_words.specs.Options.{are_allowed}
-use Rattle.command_words.specs.Words.{texts, pairs}
+use Rattle.spec_words.specs.Words.{texts, pairs}
 use Rattle.command_words.proofs.options.are_allowed.Given as goal
 
 -- the pairs passed are allowed

@@ -1,5 +1,5 @@
 use Rattle.std.proofs.Common.{◌∙◌, sym, ap}
-use Rattle.command_words.specs.Words.{all_differ}
+use Rattle.spec_words.specs.Words.{all_differ}
 use Rattle.command_words.proofs.Pairs.{pairs_short}
 use Rattle.command_words.proofs.words.all_differ.Goals as goal
 

@@ -1,5 +1,5 @@
 use Rattle.std.proofs.Common.{◌≡◌, length}
-use Rattle.command_words.specs.Words.{texts, pairs, all_differ}
+use Rattle.spec_words.specs.Words.{texts, pairs, all_differ}
 use Rattle.command_words.proofs.words.all_differ.Given as goal
 
 -- the options passed stand once

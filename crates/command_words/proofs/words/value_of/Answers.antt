@@ -1,5 +1,5 @@
 use Rattle.std.proofs.Common.{◌∙◌, sym, ap}
-use Rattle.command_words.specs.Words.{value_of}
+use Rattle.spec_words.specs.Words.{value_of}
 use Rattle.command_words.proofs.Pairs.{pairs_short}
 use Rattle.command_words.proofs.words.value_of.Goals as goal
 

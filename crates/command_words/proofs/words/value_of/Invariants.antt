@@ -1,5 +1,5 @@
 use Rattle.std.proofs.Common.{◌≡◌, length}
-use Rattle.command_words.specs.Words.{texts, pairs, value_of}
+use Rattle.spec_words.specs.Words.{texts, pairs, value_of}
 use Rattle.command_words.proofs.words.value_of.Given as goal
 
 -- what is behind the option in the rest is behind it in all

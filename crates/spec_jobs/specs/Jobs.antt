@@ -14,7 +14,7 @@ use Rattle.spec_stream.specs.Converting.{convert_meaning}
 use Rattle.spec_stream.specs.Streaming.{stream_meaning}
 use Rattle.spec_trial.specs.Trials.{Trial, trial_meaning}
 use Rattle.spec_words.specs.Given.{are_options, codec_at, number_at, number_or, number_or_default, parameters_at, text_at}
-use Rattle.spec_words.specs.Plans.{answering_of, desk_of, format, is_receivable, most_blocks, recording_of, sending_of}
+use Rattle.spec_jobs.specs.Plans.{answering_of, desk_of, format, is_receivable, most_blocks, recording_of, sending_of}
 use Rattle.spec_words.specs.Table as option
 use Rattle.spec_words.specs.Words.{Pair, pairs}
 
