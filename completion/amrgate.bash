@@ -1,0 +1,25 @@
+# Completion of amrgate for bash: the command, the options that don't stand yet, and their values where they are few.
+_amrgate() {
+  local word=${COMP_WORDS[COMP_CWORD]} before=${COMP_WORDS[COMP_CWORD - 1]} name given left=()
+  COMPREPLY=()
+  if ((COMP_CWORD == 1)); then
+    mapfile -t COMPREPLY < <(compgen -W "record --help --version" -- "$word")
+    return
+  fi
+  if [ "${COMP_WORDS[1]}" != record ]; then
+    return
+  fi
+  if ((COMP_CWORD % 2 == 1)); then
+    case $before in
+      --codec) left=(AMR AMR-WB) ;;
+      --channels) left=(1 2 3 4 5 6) ;;
+    esac
+  else
+    given=" ${COMP_WORDS[*]:2:COMP_CWORD-2} "
+    for name in --codec --channels --pt --window --reach --max-blocks --limit; do
+      [[ $given == *" $name "* ]] || left+=("$name")
+    done
+  fi
+  mapfile -t COMPREPLY < <(compgen -W "${left[*]}" -- "$word")
+}
+complete -F _amrgate amrgate
