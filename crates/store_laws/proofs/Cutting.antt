@@ -20,7 +20,7 @@ abbrev pub need : Codec → ℕ → ℕ
 need codec o = 1 + octets_in codec (unit_type (o ∷ []))
 
 -- an octet that makes no frame, or makes one
-kept : (codec : Codec) (ws : List (List ℕ)) (o : ℕ) (front : List ℕ) (x : ℕ) → (length (front ++ x ∷ []) + 1 ≡ need codec o → ⊥)
+pub kept : (codec : Codec) (ws : List (List ℕ)) (o : ℕ) (front : List ℕ) (x : ℕ) → (length (front ++ x ∷ []) + 1 ≡ need codec o → ⊥)
     → with_octet codec (state ws (o ∷ front)) x ≡ state ws (o ∷ front ++ x ∷ [])
 kept codec ws o front x e =
     let none : is_unit codec (o ∷ front ++ x ∷ []) ≡ false = ne_eqb (suc (length (front ++ x ∷ []))) (need codec o) (λ z. e (omega (arith, z))) in

@@ -6,3 +6,6 @@ pub mod Reading
 pub mod Showing
 pub mod Stored
 pub mod Written
+pub mod Behind
+pub mod Ended
+pub mod Named

@@ -65,7 +65,7 @@ passes_none : {X : Type 0} (p : X → Bool) (xs : List X) → AllByRecursion (λ
 passes_none p [] h = refl
 passes_none p (x ∷ xs) h = let r = passes_none p xs h.1 in ap (λ b. cond (not b) (1 + position_or_len p xs) 0) h.0 ∙ omega (arith, r)
 
-no_position : {X : Type 0} (p : X → Bool) (xs : List X) → AllByRecursion (λ x. p x ≡ false) xs → position p xs ≡ None
+pub no_position : {X : Type 0} (p : X → Bool) (xs : List X) → AllByRecursion (λ x. p x ≡ false) xs → position p xs ≡ None
 no_position p xs h =
     ap (λ n. cond (ltb n (length xs)) (Some n) None) (passes_none p xs h)
     ∙ ap (λ b. cond b (Some (length xs)) None) (le-ltb (length xs) (length xs) (omega arith))
@@ -87,7 +87,7 @@ none_passes p xs e =
     all_fail p xs (ltb-false (position_or_len p xs) (length xs) (cond_none (ltb (position_or_len p xs) (length xs)) (position_or_len p xs) e))
 
 -- the frames of units before the first of a reserved type
-abbrev frames_from : Codec → List (List ℕ) → List Frame
+abbrev pub frames_from : Codec → List (List ℕ) → List Frame
 frames_from codec us = map (frame_in codec) (take (unwrap_or (first_reserved codec us) (length us)) us)
 
 pub all_known : (codec : Codec) (us : List (List ℕ)) → first_reserved codec us ≡ None → frames_from codec us ≡ map (frame_in codec) us

@@ -132,7 +132,7 @@ with_header codec channels file more r h e =
           ] refl (sym here ∙ e)
     ] refl
 
-shown_more : (codec : Codec) (channels : ℕ) (file more : List ℕ) (r : StoreRefusal) → shown_refusal codec channels file ≡ Some r → shown_refusal codec channels (file ++ more) ≡ Some r
+pub shown_more : (codec : Codec) (channels : ℕ) (file more : List ℕ) (r : StoreRefusal) → shown_refusal codec channels file ≡ Some r → shown_refusal codec channels (file ++ more) ≡ Some r
 shown_more codec channels file more r h =
     let all = file ++ more in
     let t = not (has_magic codec file) && not (may_have_magic codec file) in
