@@ -30,8 +30,7 @@ pub fn streams()
         ≡ Some (StreamFile (record sent { profile = record plain { codec = AmrWb }; cmr = 8 }) most) }
     ensures skipping { asks (codes "stream --skip 01 --codec AMR --repeat 63")
         ≡ Some (StreamFile (record sent { repeat = 63; skip_empty = true }) most) }
-    ensures groups
-        { asks (codes "stream --codec AMR --fmtp interleaving=4 --blocks 2 --length 2 --pt 0")
+    ensures groups { asks (codes "stream --codec AMR --fmtp interleaving=4 --blocks 2 --length 2 --pt 0")
         ≡ Some (StreamFile
         (record sent { profile = interleaved 4; blocks = 2; length = 2; pt = 0 }) most) }
 {}

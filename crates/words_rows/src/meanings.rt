@@ -14,10 +14,8 @@ pub fn meanings_of_jobs()
     ensures stream_of_nothing { (meaning_of (StreamFile sent most)).end [] ≡ File Magic }
     ensures stream_out { (meaning_of (StreamFile sent most)).out (codes "#!AMR\n") ≡ [] }
     ensures stream_lines { (meaning_of (StreamFile sent most)).lines ≡ lines.Sending }
-    ensures convert_cut
-        { (meaning_of (ConvertLog (recorded plain 256) sent most)).end (0 ∷ []) ≡ LogCut 1 }
-    ensures convert_lines
-        { (meaning_of (ConvertLog (recorded plain 256) sent most)).lines ≡ lines.Converting }
+    ensures convert_cut { (meaning_of (ConvertLog (recorded plain 256) sent most)).end (0 ∷ []) ≡ LogCut 1 }
+    ensures convert_lines { (meaning_of (ConvertLog (recorded plain 256) sent most)).lines ≡ lines.Converting }
     ensures list_limit { (meaning_of (ListLog
         (record { profile = plain; asked = None; desk = desk eight 7; bits = false }) 1)).end
         (0 ∷ 0 ∷ []) ≡ LimitReached }

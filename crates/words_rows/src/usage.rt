@@ -33,25 +33,19 @@ pub fn no_values()
     ensures contradiction { asks (codes "record --codec AMR --fmtp crc=1;octet-align=0") ≡ None }
     ensures mode_of_the_other_codec { asks (codes "answer --modes 8 --codec AMR") ≡ None }
     ensures start_past_the_modes { asks (codes "list --start 8 --codec AMR") ≡ None }
-    ensures start_outside_the_set
-        { asks (codes "list --start 1 --fmtp mode-set=0,2 --codec AMR") ≡ None }
+    ensures start_outside_the_set { asks (codes "list --start 1 --fmtp mode-set=0,2 --codec AMR") ≡ None }
     ensures shown { asks (codes "list --codec AMR --show all") ≡ None }
 {}
 
 /// Plans that aren't valid.
 pub fn no_plans()
-    ensures group_past_the_window
-        { asks (codes "record --codec AMR --window 8 --fmtp interleaving=30") ≡ None }
-    ensures payload_past_the_window
-        { asks (codes "record --codec AMR --window 1 --max-blocks 2") ≡ None }
-    ensures repeats_in_groups
-        { asks (codes "stream --codec AMR --fmtp interleaving=4 --blocks 1 --length 2 --repeat 1")
+    ensures group_past_the_window { asks (codes "record --codec AMR --window 8 --fmtp interleaving=30") ≡ None }
+    ensures payload_past_the_window { asks (codes "record --codec AMR --window 1 --max-blocks 2") ≡ None }
+    ensures repeats_in_groups { asks (codes "stream --codec AMR --fmtp interleaving=4 --blocks 1 --length 2 --repeat 1")
         ≡ None }
     ensures groups_without_interleaving { asks (codes "stream --codec AMR --length 2") ≡ None }
     ensures request_of_silence { asks (codes "stream --codec AMR --cmr 8") ≡ None }
     ensures request_of_no_mode { asks (codes "stream --codec AMR-WB --cmr 9") ≡ None }
-    ensures too_many_blocks
-        { asks (codes "trial --codec AMR --count 1 --blocks 64 --repeat 1") ≡ None }
-    ensures group_of_what_is_sent
-        { asks (codes "convert --codec AMR --fmtp interleaving=8 --length 2") ≡ None }
+    ensures too_many_blocks { asks (codes "trial --codec AMR --count 1 --blocks 64 --repeat 1") ≡ None }
+    ensures group_of_what_is_sent { asks (codes "convert --codec AMR --fmtp interleaving=8 --length 2") ≡ None }
 {}
