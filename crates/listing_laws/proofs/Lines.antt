@@ -39,12 +39,11 @@ pub listing_grows : (l : Listing) (records more : List (List ℕ)) → IsPrefix 
 listing_grows l records more =
     let all = records ++ more in
     let size = length records in
-    let behind = range_with_len (0 + size) (length more) in
-    (
+    let behind = range_with_len (0 + size) (length more) in (
       flat_map (listed_record l all) behind,
       ap (λ n. flat_map (listed_record l all) (range_with_len 0 n)) (length-append records more)
-      ∙ ap (flat_map (listed_record l all)) (split_range 0 size (length more))
-      ∙ flat_map-append (listed_record l all) (range_with_len 0 size) behind
-      ∙ ap (λ t. t ++ flat_map (listed_record l all) behind)
-      (same_on (listed_record l all) (listed_record l records) 0 size (λ k low high. same_line l records more k (omega (arith, high)))),
+          ∙ ap (flat_map (listed_record l all)) (split_range 0 size (length more))
+          ∙ flat_map-append (listed_record l all) (range_with_len 0 size) behind
+          ∙ ap (λ t. t ++ flat_map (listed_record l all) behind)
+          (same_on (listed_record l all) (listed_record l records) 0 size (λ k low high. same_line l records more k (omega (arith, high)))),
     )

@@ -1,5 +1,5 @@
 -- The words of the worked examples of command lines.
-use Rattle.std.specs.Prelude.{ℕ, Bool, false, true, nat_eq, List, [], ◌∷◌, Option, None, Some}
+use Rattle.std.specs.Prelude.{◌≡◌, ℕ, Bool, false, true, nat_eq, List, [], ◌∷◌, Option, None, Some}
 use Rattle.std.specs.List.{slice_split}
 use Rattle.amr_frame.specs.declared.codec.Codec.TheVariants.{Amr, AmrWb}
 use Rattle.amr_frame.specs.declared.profile.Profile.{Profile}
@@ -9,11 +9,18 @@ use Rattle.spec_record.specs.Recording.{Recording}
 use Rattle.spec_run.specs.Meanings.{Meaning}
 use Rattle.spec_sending.specs.declared.plan.SendPlan.{SendPlan}
 use Rattle.spec_session.specs.Session.{rules_of}
-use Rattle.spec_jobs.specs.Jobs.{Job, job_of}
+use Rattle.spec_jobs.specs.Jobs.{AnswerOffer, ConvertLog, Job, RecordLog, StreamFile, job_of, meaning_of}
 
 -- what the words of a line ask for, which stand between single spaces
 abbrev pub asks : List ℕ → Option Job
 asks line = job_of (slice_split (λ o. nat_eq o 32) line)
+
+-- a line gives no job, or this one
+abbrev pub NoJob : List ℕ → Type 0
+NoJob line = asks line ≡ None
+
+abbrev pub Gives : List ℕ → Job → Type 0
+Gives line job = asks line ≡ Some job
 
 -- the most octets of a log or a file
 abbrev pub most : ℕ
@@ -101,3 +108,16 @@ wants modes = record {
   };
   port = 9;
 }
+
+-- what the jobs of lines with a codec alone mean
+abbrev pub recording_means : Meaning
+recording_means = meaning_of (RecordLog (recorded plain 256) most)
+
+abbrev pub stream_means : Meaning
+stream_means = meaning_of (StreamFile sent most)
+
+abbrev pub conversion_means : Meaning
+conversion_means = meaning_of (ConvertLog (recorded plain 256) sent most)
+
+abbrev pub answer_means : Meaning
+answer_means = meaning_of (AnswerOffer (wants eight) 65536)
