@@ -17,7 +17,7 @@ use Rattle.amr_store.proofs.Got.{wrote_blocks, wrote_front}
 use Rattle.amr_store.specs.Written.{WroteBlock, WrotePart}
 use Rattle.amr_store.specs.declared.writer.StoreWriter.{StoreWriter}
 use Rattle.log_engine.specs.Puts.{Puts, PutsPart}
-use Rattle.spec_record.specs.Recording.{early_of, file_of, gone_out, up_to_window}
+use Rattle.spec_record.specs.Recording.{early_of, file_of}
 use Rattle.spec_session.specs.Copies.{copies}
 use Rattle.spec_session.specs.Packets.{Packet, packets_of}
 use Rattle.spec_session.specs.Release.{released}

@@ -29,8 +29,8 @@ pub use view::RtpView;
 pub use write::{size_rtp, write_rtp};
 
 #[cfg(test)]
-mod reader_tests;
-#[cfg(test)]
 mod log_writer_tests;
+#[cfg(test)]
+mod reader_tests;
 #[cfg(test)]
 mod rtp_tests;

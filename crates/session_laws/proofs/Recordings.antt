@@ -5,9 +5,10 @@ use Rattle.std.proofs.lemmas.List.Concat.{flat_map-append}
 use Rattle.std.proofs.lemmas.List.Elements.{filter_map-append}
 use Rattle.amr_frame.specs.Frames.{Frame}
 use Rattle.session_laws.proofs.Sessions.{goes_on_from, released_grows, released_stays}
-use Rattle.spec_record.specs.Recording.{Recording, early_of, file_of, gone_out, up_to_window}
+use Rattle.spec_record.specs.Recording.{Recording, early_of, file_of}
+use Rattle.spec_session.specs.Copies.{copies}
 use Rattle.spec_session.specs.Packets.{Packet, packet_of, packets_of}
-use Rattle.spec_session.specs.Release.{released, released_up_to}
+use Rattle.spec_session.specs.Release.{gone_at, gone_out, released, released_up_to}
 use Rattle.spec_session.specs.Session.{Accepted, Rules, accepted, greatest_last, horizon, horizon_of}
 use Rattle.spec_store.specs.StorageFile.{block_text, header, storage_file}
 
@@ -26,14 +27,14 @@ horizon_stays rules h more z e =
     let begun = still_begun rules (accepted rules h) on.0 z e in
     (begun.0, ap (horizon_of rules) on.1 ∙ begun.1)
 
-pub gone_by : (rules : Rules) (h more : List Packet) (o : Option ℤ) → horizon rules h ≡ o → Front (up_to_window rules h o) (gone_out rules (h ++ more))
+pub gone_by : (rules : Rules) (h more : List Packet) (o : Option ℤ) → horizon rules h ≡ o → Front (gone_at rules o (copies rules h)) (gone_out rules (h ++ more))
 gone_by rules h more None e = (gone_out rules (h ++ more), refl)
 gone_by rules h more (Some z) e =
     let y = horizon_stays rules h more z e in
     let grown = released_grows rules h more z y.0 e y.1 in
-    (grown.0, ap (up_to_window rules (h ++ more)) y.1 ∙ grown.1)
+    (grown.0, ap (λ p. gone_at rules p (copies rules (h ++ more))) y.1 ∙ grown.1)
 
-pub released_by : (rules : Rules) (h more : List Packet) (o : Option ℤ) → horizon rules h ≡ o → Front (up_to_window rules h o) (released rules (h ++ more))
+pub released_by : (rules : Rules) (h more : List Packet) (o : Option ℤ) → horizon rules h ≡ o → Front (gone_at rules o (copies rules h)) (released rules (h ++ more))
 released_by rules h more None e = (released rules (h ++ more), refl)
 released_by rules h more (Some z) e = released_stays rules h more z e
 

@@ -1,10 +1,9 @@
 -- What recording the records of a packet log writes: ours.
-use Rattle.std.specs.Prelude.{ℕ, List, [], ℤ, pos, ◌-ℤ◌, Option, None, Some}
+use Rattle.std.specs.Prelude.{ℕ, List, Option}
 use Rattle.amr_frame.specs.declared.profile.Profile.{Profile}
-use Rattle.amr_frame.specs.Frames.{Frame}
-use Rattle.spec_session.specs.Packets.{Packet, packets_of}
-use Rattle.spec_session.specs.Release.{released, released_up_to}
-use Rattle.spec_session.specs.Session.{Rules, horizon}
+use Rattle.spec_session.specs.Packets.{packets_of}
+use Rattle.spec_session.specs.Release.{gone_out, released}
+use Rattle.spec_session.specs.Session.{Rules}
 use Rattle.spec_store.specs.StorageFile.{storage_file}
 
 -- what is recorded: the format, the payload type or any, and the session's rules
@@ -17,14 +16,6 @@ pub record Recording : Type 0 where
 abbrev pub file_of : Recording → List (List ℕ) → List ℕ
 file_of r records =
     storage_file r.rules.codec r.rules.channels (released r.rules (packets_of r.profile r.asked records))
-
--- what goes out of a session while it lasts: the release up to the horizon less the window
-abbrev pub up_to_window : Rules → List Packet → Option ℤ → List (List Frame)
-up_to_window rules h None = []
-up_to_window rules h (Some z) = released_up_to rules h (z -ℤ pos rules.window)
-
-abbrev pub gone_out : Rules → List Packet → List (List Frame)
-gone_out rules h = up_to_window rules h (horizon rules h)
 
 -- what of the file of records is written while more records may come
 abbrev pub early_of : Recording → List (List ℕ) → List ℕ

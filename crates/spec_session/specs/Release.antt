@@ -1,14 +1,15 @@
 -- What is released: a block for each frame time from the least to the greatest place of a copy in time, and in
 -- it for each channel the best of all copies that ever came in time, or NO_DATA. This project's own.
-use Rattle.std.specs.Prelude.{ℕ, ◌+◌, Bool, ◌&&◌, nat_eq, List, [], ◌∷◌, map, filter, fold, ℤ, pos, negsuc, ◌+ℤ◌, ◌-ℤ◌, int_le, Option}
+use Rattle.std.specs.Prelude.{ℕ, ◌+◌, Bool, ◌&&◌, nat_eq, List, [], ◌∷◌, map, filter, fold}
+use Rattle.std.specs.Prelude.{ℤ, pos, negsuc, ◌+ℤ◌, ◌-ℤ◌, int_le, Option, Some, None}
 use Rattle.std.specs.List.{range_with_len}
 use Rattle.std.specs.Int.{int_max, int_min}
 use Rattle.amr_frame.specs.declared.codec.Codec.{Codec}
 use Rattle.amr_frame.specs.Frames.{Frame}
-use Rattle.spec_session.specs.Copies.{Copy, copies}
+use Rattle.spec_session.specs.Copies.{Copy, copies, copies_of}
 use Rattle.spec_session.specs.Packets.{Packet}
 use Rattle.spec_session.specs.Quality.{best, stored}
-use Rattle.spec_session.specs.Session.{Rules}
+use Rattle.spec_session.specs.Session.{Accepted, Rules, accepted, horizon_of}
 
 abbrev pub same_place : ℤ → ℤ → Bool
 same_place a b = int_le a b && int_le b a
@@ -60,3 +61,15 @@ released rules h = released_of rules (copies rules h)
 
 abbrev pub released_up_to : Rules → List Packet → ℤ → List (List Frame)
 released_up_to rules h t = released_to rules (copies rules h) t
+
+-- what has gone out at a horizon: the release up to it less the window, nothing before the first packet
+abbrev pub gone_at : Rules → Option ℤ → List Copy → List (List Frame)
+gone_at rules None cs = []
+gone_at rules (Some h) cs = released_to rules cs (h -ℤ pos rules.window)
+
+-- what has gone out of a session while it lasts, by its accepted packets and by its well-formed ones
+abbrev pub gone_of : Rules → List Accepted → List (List Frame)
+gone_of rules acc = gone_at rules (horizon_of rules acc) (copies_of rules acc)
+
+abbrev pub gone_out : Rules → List Packet → List (List Frame)
+gone_out rules h = gone_of rules (accepted rules h)

@@ -5,13 +5,13 @@ use Rattle.amr_frame.specs.Frames.{Frame}
 use Rattle.run_report.specs.declared.counts.Counts.{Counts}
 use Rattle.run_report.specs.declared.report.CountLines.TheVariants as lines
 use Rattle.spec_record.specs.RecordCounts as recording
-use Rattle.spec_record.specs.Recording.{Recording, gone_out}
+use Rattle.spec_record.specs.Recording.{Recording}
 use Rattle.spec_run.specs.LogRuns.{RecordsJob, log_meaning}
 use Rattle.spec_run.specs.Meanings.{Meaning}
 use Rattle.spec_sending.specs.declared.plan.SendPlan.{SendPlan}
 use Rattle.spec_sending.specs.Sending.{sent}
 use Rattle.spec_session.specs.Packets.{packets_of}
-use Rattle.spec_session.specs.Release.{released}
+use Rattle.spec_session.specs.Release.{gone_out, released}
 use Rattle.spec_stream.specs.Streaming.{begun_log, sent_log}
 
 -- the blocks that are released of records, and those released while more records may come

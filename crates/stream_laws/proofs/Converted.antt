@@ -3,13 +3,13 @@ use Rattle.std.proofs.Common.{◌≡◌, ℕ, List, ◌++◌, refl, ap, ◌∙�
 use Rattle.amr_frame.specs.Frames.{Frame}
 use Rattle.sending_laws.proofs.Staying.{begun_is_sent, begun_stays}
 use Rattle.session_laws.proofs.Recordings.{gone_by, more_packets, released_by}
-use Rattle.spec_record.specs.Recording.{Recording, gone_out}
+use Rattle.spec_record.specs.Recording.{Recording}
 use Rattle.spec_run.specs.Meanings.{IsPrefix}
 use Rattle.spec_sending.specs.Plans.{IsPlan}
 use Rattle.spec_sending.specs.Sending.{begun, sent}
 use Rattle.spec_sending.specs.declared.plan.SendPlan.{SendPlan}
 use Rattle.spec_session.specs.Packets.{packets_of}
-use Rattle.spec_session.specs.Release.{released}
+use Rattle.spec_session.specs.Release.{gone_out, released}
 use Rattle.spec_session.specs.Session.{horizon}
 use Rattle.spec_stream.specs.Converting.{early_from, gone_out_in, log_from}
 use Rattle.spec_stream.specs.Streaming.{begun_log, sent_log}

@@ -9,13 +9,13 @@ pub size_payload-requires : goal.size_payload-requires
 size_payload-requires c = record {
   valid = search rules;
   carried = carried_in_group _ _ c.format-profile.ensures.channels c.format-profile.ensures.blocks refl (omega arith) refl refl refl (c.requires.present, tt)
-  (subst (λ (codec : Codec). IsFrame codec (frame_of c.args.cell)) (sym c.format-profile.ensures.codec) c.requires.frame, tt);
+      (subst (λ (codec : Codec). IsFrame codec (frame_of c.args.cell)) (sym c.format-profile.ensures.codec) c.requires.frame, tt);
 }
 
 pub write_payload-requires : goal.write_payload-requires
 write_payload-requires c = record {
   valid = search rules;
   carried = carried_in_group _ _ c.format-profile.ensures.channels c.format-profile.ensures.blocks refl (omega arith) refl refl refl (c.requires.present, tt)
-  (subst (λ (codec : Codec). IsFrame codec (frame_of c.args.cell)) (sym c.format-profile.ensures.codec) c.requires.frame, tt);
+      (subst (λ (codec : Codec). IsFrame codec (frame_of c.args.cell)) (sym c.format-profile.ensures.codec) c.requires.frame, tt);
   size = search rules;
 }
