@@ -14,7 +14,7 @@ use Rattle.amr_frame.specs.declared.codec.Codec.{Codec}
 use Rattle.amr_frame.specs.First.{when, first}
 use Rattle.amr_frame.specs.Frames.{Frame}
 use Rattle.spec_store.specs.StorageReading.{Units, units, blocks_in, blocks_of, channels_told, cut_refusal, first_reserved, frame_in, has_header, has_magic, header_len, is_unit, magic_len, may_have_magic, shown_refusal, store_refusal, unit_place, unit_type, units_in, with_octet}
-use Rattle.spec_store.specs.declared.refusal.StoreRefusal.TheVariants as why
+use Rattle.refusals.specs.declared.store.StoreRefusal.TheVariants as why
 use Rattle.store_laws.specs.Units.{AreUnits, IsPart}
 use Rattle.store_laws.proofs.Behind.{none_reserved, units_go_on, whole_of}
 use Rattle.store_laws.proofs.Blocked.{block_first, blocks_again}

@@ -15,7 +15,7 @@ use Rattle.amr_frame.specs.declared.codec.Kind.TheVariants.{Speech, Sid, Lost, E
 use Rattle.amr_frame.specs.First.{when, first}
 use Rattle.amr_frame.specs.Tables.{Row, rows, bits_in, is_reserved, octets_in}
 use Rattle.spec_store.specs.StorageReading.{Units, channels_told, first_reserved, has_magic, header_len, is_reserved_unit, is_unit, may_have_magic, shown_refusal, store_refusal, unit_place, unit_type, units_in, with_octet}
-use Rattle.spec_store.specs.declared.refusal.StoreRefusal.TheVariants as why
+use Rattle.refusals.specs.declared.store.StoreRefusal.TheVariants as why
 use Rattle.store_laws.specs.Units.{AreUnits}
 use Rattle.store_laws.proofs.Behind.{units_go_on, whole_of}
 use Rattle.store_laws.proofs.Cutting.{all, state}

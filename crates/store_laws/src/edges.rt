@@ -3,7 +3,7 @@ ghost use Rattle.amr_frame.specs.declared.codec.Codec.{Codec};
 ghost use Rattle.spec_store.specs.StorageReading.{blocks_in, cut_refusal, frame_in, shown_refusal, store_refusal, unit_type};
 ghost use Rattle.amr_frame.specs.First.{first, when};
 ghost use Rattle.amr_frame.specs.Tables.{is_reserved};
-ghost use Rattle.spec_store.specs.declared.refusal.StoreRefusal.TheVariants as why;
+ghost use Rattle.refusals.specs.declared.store.StoreRefusal.TheVariants as why;
 ghost use Rattle.std.specs.Prelude.{◌++◌, ◌∷◌, ◌≡◌, ◌≤◌, ◌<◌, ◌+◌, [], length, List, map, nat_lt, true, None, Some, ℕ};
 ghost use Rattle.store_laws.specs.Units.{AreUnits, IsPart};
 
