@@ -3,12 +3,15 @@ use Rattle.std.specs.Prelude.{◌≡◌, ℕ, Bool, false, true, nat_eq, List, [
 use Rattle.std.specs.List.{slice_split}
 use Rattle.amr_frame.specs.declared.codec.Codec.TheVariants.{Amr, AmrWb}
 use Rattle.amr_frame.specs.declared.profile.Profile.{Profile}
+use Rattle.spec_listing.specs.Listing.{Listing}
 use Rattle.spec_modes.specs.Desk.{DeskPlan}
 use Rattle.spec_offer.specs.Answering.{Answering}
 use Rattle.spec_record.specs.Recording.{Recording}
 use Rattle.spec_run.specs.Meanings.{Meaning}
 use Rattle.spec_sending.specs.declared.plan.SendPlan.{SendPlan}
 use Rattle.spec_session.specs.Session.{rules_of}
+use Rattle.spec_trial.specs.Trials.{Trial}
+use Rattle.worked_rows.specs.Words.{packed, plan, recording}
 use Rattle.spec_jobs.specs.Jobs.{AnswerOffer, ConvertLog, Job, RecordLog, StreamFile, job_of, meaning_of}
 
 -- what the words of a line ask for, which stand between single spaces
@@ -26,59 +29,23 @@ Gives line job = asks line ≡ Some job
 abbrev pub most : ℕ
 most = 1099511627776
 
--- AMR, one channel, bandwidth-efficient, up to 64 blocks in a payload
-abbrev pub plain : Profile
-plain = record {
-  codec = Amr;
-  channels = 1;
-  octet_aligned = false;
-  crc = false;
-  sorting = false;
-  interleaving = None;
-  max_blocks = 64;
-}
-
--- the same with interleaving groups of up to so many blocks
-abbrev pub interleaved : ℕ → Profile
-interleaved group = record plain { octet_aligned = true; interleaving = Some group }
-
--- a recording of any payload type with this window
-abbrev pub recorded : Profile → ℕ → Recording
-recorded p window = record { profile = p; asked = None; rules = rules_of p window 45000 }
-
--- blocks sent one to a packet
-abbrev pub sent : SendPlan
-sent = record {
-  profile = plain;
-  blocks = 1;
-  length = 1;
-  repeat = 0;
-  skip_empty = false;
-  cmr = 15;
-  pt = 96;
-  ssrc = 0;
-  seq = 0;
-  ts = 0;
-}
-
 -- the format of the long line of `convert`: what it receives, and what it sends
 abbrev pub wide_received : Profile
-wide_received = record {
+wide_received = record packed {
   codec = AmrWb;
   channels = 2;
   octet_aligned = true;
   crc = true;
-  sorting = false;
-  interleaving = None;
   max_blocks = 12;
 }
 
+abbrev wide_format : Profile
+wide_format = record wide_received { crc = false; interleaving = Some 8; max_blocks = 64 }
+
 abbrev pub wide_sent : SendPlan
-wide_sent = record {
-  profile = record wide_received { crc = false; interleaving = Some 8; max_blocks = 64 };
+wide_sent = record (plan wide_format) {
   blocks = 2;
   length = 4;
-  repeat = 0;
   skip_empty = true;
   cmr = 8;
   pt = 98;
@@ -87,10 +54,23 @@ wide_sent = record {
   ts = 3;
 }
 
+abbrev pub wide_recording : Recording
+wide_recording =
+    record { profile = wide_received; asked = Some 97; rules = rules_of wide_received 300 100 }
+
 -- a desk of these modes that starts at one of them
 abbrev pub desk : List ℕ → ℕ → DeskPlan
 desk modes start =
     record { codec = Amr; modes = modes; neighbor = false; period = 1; start = start }
+
+-- a listing of frames of any payload type, of this format and with this desk
+abbrev pub listed : Profile → DeskPlan → Listing
+listed p d = record { profile = p; asked = None; desk = d; bits = false }
+
+-- a trial of one format with this window
+abbrev pub tried : ℕ → ℕ → Profile → ℕ → Trial
+tried count seed p window =
+    record { count = count; seed = seed; sending = plan p; recording = recording p window }
 
 abbrev pub eight : List ℕ
 eight = 0 ∷ 1 ∷ 2 ∷ 3 ∷ 4 ∷ 5 ∷ 6 ∷ 7 ∷ []
@@ -111,13 +91,13 @@ wants modes = record {
 
 -- what the jobs of lines with a codec alone mean
 abbrev pub recording_means : Meaning
-recording_means = meaning_of (RecordLog (recorded plain 256) most)
+recording_means = meaning_of (RecordLog (recording packed 256) most)
 
 abbrev pub stream_means : Meaning
-stream_means = meaning_of (StreamFile sent most)
+stream_means = meaning_of (StreamFile (plan packed) most)
 
 abbrev pub conversion_means : Meaning
-conversion_means = meaning_of (ConvertLog (recorded plain 256) sent most)
+conversion_means = meaning_of (ConvertLog (recording packed 256) (plan packed) most)
 
 abbrev pub answer_means : Meaning
 answer_means = meaning_of (AnswerOffer (wants eight) 65536)

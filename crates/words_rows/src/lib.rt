@@ -8,4 +8,4 @@ mod usage;
 
 pub use jobs::{answers_and_trials, conversions, listings, recordings, streams};
 pub use meanings::meanings_of_jobs;
-pub use usage::{no_pairs, no_plans, no_values};
+pub use usage::{no_commands, no_numbers, no_pairs, no_plans, no_values};

@@ -3,32 +3,40 @@ ghost use Rattle.std.specs.Prelude.{◌++◌, ◌≡◌, [], None, codes};
 ghost use Rattle.spec_jobs.specs.Jobs.{job_of};
 ghost use Rattle.words_rows.specs.Words.{NoJob};
 
-/// Words that aren't a command and pairs of its options, each once, or that lack the codec.
-pub fn no_pairs()
+/// Words that begin with no command, or that lack what it needs.
+pub fn no_commands()
     ensures no_word { job_of [] ≡ None }
-    ensures no_codec { NoJob (codes "record") }
     ensures no_command { NoJob (codes "--codec AMR") }
     ensures unknown_command { NoJob (codes "play --codec AMR") }
     ensures capital_command { NoJob (codes "Record --codec AMR") }
+    ensures no_codec { NoJob (codes "record") }
+    ensures no_count { NoJob (codes "trial --codec AMR") }
+{}
+
+/// Words that aren't pairs of the command's options, each once.
+pub fn no_pairs()
     ensures joined_by_equals { NoJob (codes "record --codec=AMR") }
     ensures option_twice { NoJob (codes "record --codec AMR --codec AMR") }
     ensures option_twice_alike { NoJob (codes "record --pt 7 --codec AMR --pt 07") }
     ensures of_another_command { NoJob (codes "record --codec AMR --blocks 2") }
     ensures of_no_command { NoJob (codes "record --codec AMR --verbose 1") }
     ensures no_last_value { NoJob (codes "record --codec AMR --pt") }
-    ensures no_count { NoJob (codes "trial --codec AMR") }
     ensures trial_limits { NoJob (codes "trial --codec AMR --count 0 --limit 9") }
 {}
 
-/// Values that an option hasn't.
-pub fn no_values()
-    ensures small_codec { NoJob (codes "record --codec amr") }
+/// Numbers that an option hasn't.
+pub fn no_numbers()
     ensures no_channel { NoJob (codes "record --codec AMR --channels 0") }
     ensures seven_channels { NoJob (codes "record --codec AMR --channels 7") }
     ensures signed { NoJob (codes "record --codec AMR --channels +1") }
     ensures fourteen_digits { NoJob (codes "record --codec AMR --pt 00000000000007") }
     ensures window { NoJob (codes "record --codec AMR --window 4097") }
     ensures offer_limit { NoJob (codes "answer --codec AMR --limit 65537") }
+{}
+
+/// Names, media parameters and modes that an option hasn't.
+pub fn no_values()
+    ensures small_codec { NoJob (codes "record --codec amr") }
     ensures parameters { NoJob (codes "record --codec AMR --fmtp crc=2") }
     ensures contradiction { NoJob (codes "record --codec AMR --fmtp crc=1;octet-align=0") }
     ensures mode_of_the_other_codec { NoJob (codes "answer --modes 8 --codec AMR") }
