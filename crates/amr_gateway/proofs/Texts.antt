@@ -18,19 +18,19 @@ use Rattle.amr_store.specs.Written.{WroteBlock, WrotePart}
 use Rattle.amr_store.specs.declared.writer.StoreWriter.{StoreWriter}
 use Rattle.log_engine.specs.Puts.{Puts, PutsPart}
 use Rattle.spec_record.specs.Recording.{early_of, file_of}
-use Rattle.spec_session.specs.Copies.{copies}
+use Rattle.spec_session.specs.Copies.{Copy, copies}
 use Rattle.spec_session.specs.Packets.{Packet, packets_of}
-use Rattle.spec_session.specs.Release.{released}
+use Rattle.spec_session.specs.Release.{gone_at, gone_out, released}
 use Rattle.spec_session.specs.Session.{Rules, horizon}
 use Rattle.spec_store.specs.StorageFile.{block_text, header, storage_file}
 
 -- what a receiver has sent is what has gone out of the session
-gone_by : (rules : Rules) (h : List Packet) (o : Option ℤ) → up_to_window rules h o ≡ sent_at rules o (copies rules h)
-gone_by rules h None = refl
-gone_by rules h (Some z) = refl
+gone_by : (rules : Rules) (o : Option ℤ) (cs : List Copy) → gone_at rules o cs ≡ sent_at rules o cs
+gone_by rules None cs = refl
+gone_by rules (Some z) cs = refl
 
 pub gone_is : (plan : Plan) (h : List Packet) → gone_out (rules_in plan) h ≡ sent plan h
-gone_is plan h = gone_by (rules_in plan) h (horizon (rules_in plan) h)
+gone_is plan h = gone_by (rules_in plan) (horizon (rules_in plan) h) (copies (rules_in plan) h)
 
 -- the octets of more blocks
 pub text_more : (job : RecordJob) (less more blocks : List (List Frame)) → more ≡ less ++ blocks
