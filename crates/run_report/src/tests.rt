@@ -68,17 +68,16 @@ fn each_command_has_its_lines(rt: HostRuntime) -> Result<(), Fail> {
         sent: 50,
         ..Counts::none()
     };
-    let reasons = [
-        Why::Codec,
-        Why::Channels,
-        Why::Crc,
-        Why::Sorting,
-        Why::Interleaving,
-        Why::Modes,
+    let of = |why| RefusedType { pt: 97, why };
+    let types = [
+        of(Why::Codec),
+        of(Why::Channels),
+        of(Why::Crc),
+        of(Why::Sorting),
+        of(Why::Interleaving),
+        of(Why::Modes),
     ];
-    for why in reasons {
-        counts.refused.push(RefusedType { pt: 97, why });
-    }
+    assert!(rt; counts.refused.try_extend_from_slice(&types).is_ok());
     let report = RunReport {
         end: RunEnd::NoAnswer,
         counts,
