@@ -1,8 +1,8 @@
 -- How far so many records take a session.
-use Rattle.std.proofs.Common.{◌≡◌, ℕ, ◌+◌, ◌^◌, ◌<◌, ◌≤◌, ap, sym, subst, arith, Option, Some, None}
+use Rattle.std.proofs.Common.{◌≡◌, ℕ, ◌+◌, ◌^◌, ◌<◌, ◌≤◌, false, ap, sym, subst, arith, Option, Some, None}
 use Rattle.amr_gateway.specs.Going.{IsBounded, IsWithin}
 use Rattle.amr_playout.specs.Plans.{IsPlan}
-use Rattle.amr_playout.specs.Receiver.{Grows, View}
+use Rattle.amr_playout.specs.Receiver.{Grows, TakesPackets, View}
 use Rattle.amr_playout.specs.Standing.{IsBelow}
 use Rattle.amr_playout.specs.declared.plan.Plan.{Plan}
 use Rattle.amr_playout.specs.declared.session.Begun.{Begun}
@@ -13,19 +13,14 @@ below_by n None blocks few w = (tt, omega (arith, w))
 below_by n (Some s) blocks few w = (let a = w.0 in let b = w.1 in omega (arith, few, a, b), let a = w.0 in let b = w.1 in omega (arith, few, a, b))
 
 -- so many records don't pass what a receiver counts
-pub record Room (v : View) : Type 0 where
-  pub session : IsBelow v.session
-  pub late : v.counts.late < 2 ^ 62
-  pub copies : v.counts.copies < 2 ^ 62
-  pub blocks : v.counts.blocks < 2 ^ 62
-
-pub room : (n : ℕ) (v : View) → n ≤ 2 ^ 40 → IsBounded n v → Room v
-room n v few b =
+pub takes_packets : (n : ℕ) (v : View) → v.spent ≡ false → n ≤ 2 ^ 40 → IsBounded n v → TakesPackets v
+takes_packets n v unspent few b =
     let w = below_by n v.session v.counts.blocks few b.within in
     let late = b.late in
     let copies = b.copies in
     record {
-      session = w.0;
+      unspent = unspent;
+      below = w.0;
       late = omega (arith, few, late);
       copies = omega (arith, few, copies);
       blocks = w.1;

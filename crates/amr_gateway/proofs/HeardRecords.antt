@@ -6,12 +6,12 @@ use Rattle.amr_gateway.proofs.Bounds.{bounded_same}
 use Rattle.amr_gateway.proofs.Passing.{told_packet}
 use Rattle.amr_gateway.proofs.Records.{packets_more, packets_same}
 use Rattle.amr_gateway.proofs.Texts.{gained_none}
-use Rattle.amr_gateway.specs.Hearing.{Gained, GainedPart, Hears, HearsPart, IsTold, Meets, Offers, OffersPart, among, taken_in}
+use Rattle.amr_gateway.specs.Hearing.{Gained, GainedPart, Hears, HearsPart, IsTold, Meets, Offers, OffersPart, among, gone_for, taken_in}
 use Rattle.amr_gateway.specs.Jobs.{recording_of}
 use Rattle.amr_gateway.specs.declared.heard.Heard.{Heard}
 use Rattle.amr_gateway.specs.declared.job.RecordJob.{RecordJob}
 use Rattle.amr_playout.specs.Plans.{rules_in}
-use Rattle.amr_playout.specs.Receiver.{StandsFor, View, sent}
+use Rattle.amr_playout.specs.Receiver.{StandsFor, View}
 use Rattle.spec_session.specs.Packets.{Packet, packet_of, packets_of}
 use Rattle.spec_session.specs.Session.{accepted}
 
@@ -29,7 +29,7 @@ passed job v octets got heard unspent none told e =
     λ records. packets_same (recording_of job) records octets e in record {
       told = told;
       stands = λ records s. subst (StandsFor v) (sym (same records)) s;
-      out = λ records s. gained_none got _ _ (ap (sent job.plan) (same records));
+      out = λ records s. gained_none got _ _ (ap (gone_for job) (same records));
       accepts = λ records s. let as_before = ap (taken_of job) (same records) in omega (arith, as_before, none);
       on = record { unspent = unspent; bounded = λ n b. bounded_same n v b };
     }
@@ -47,7 +47,7 @@ module _ (job : RecordJob) (v : View) (octets : List ℕ) (x : Packet) (got got'
     told = told_packet (recording_of job) octets heard o.of_session m;
     stands = λ records s. subst (StandsFor v') (behind records) (o.stands (among job records) s);
     out = λ records s.
-        subst (λ h. Gained got got' (sent job.plan (among job records)) (sent job.plan h)) (behind records)
+        subst (λ h. Gained got got' (gone_for job (among job records)) (gone_for job h)) (behind records)
         (o.out (among job records) s);
     accepts = λ records s. ap (taken_of job) (sym (behind records)) ∙ o.accepts (among job records) s;
     on = o.on;
@@ -59,6 +59,6 @@ module _ (job : RecordJob) (v : View) (octets : List ℕ) (x : Packet) (got got'
   packet_part (Ok heard) o = tt
   packet_part (Err f) o = record {
     out = λ records s.
-        subst (λ h. GainedPart got got' (sent job.plan (among job records)) (sent job.plan h)) (behind records)
+        subst (λ h. GainedPart got got' (gone_for job (among job records)) (gone_for job h)) (behind records)
         (o.out (among job records) s);
   }

@@ -8,12 +8,12 @@ use Rattle.amr_gateway.specs.Going.{IsBounded}
 use Rattle.amr_gateway.specs.Jobs.{recording_of}
 use Rattle.amr_gateway.specs.declared.job.RecordJob.{RecordJob}
 use Rattle.amr_playout.specs.Plans.{rules_in}
-use Rattle.amr_playout.specs.Receiver.{StandsFor, View, sent}
+use Rattle.amr_playout.specs.Receiver.{StandsFor, View}
 use Rattle.spec_record.specs.RecordCounts.{is_no_payload, is_no_rtp, is_null, is_other_type}
 use Rattle.spec_record.specs.Recording.{Recording}
 use Rattle.spec_session.specs.Counts.{block_count}
 use Rattle.spec_session.specs.Packets.{Packet, packets_of}
-use Rattle.spec_session.specs.Release.{released}
+use Rattle.spec_session.specs.Release.{gone_out, released}
 use Rattle.spec_session.specs.Session.{accepted}
 use Rattle.spec_store.specs.StorageFile.{block_text}
 
@@ -73,13 +73,17 @@ pub record GoesOn (v v' : View) : Type 0 where
   pub unspent : v'.spent ≡ false
   pub bounded : (n : ℕ) → IsBounded n v → IsBounded (n + 1) v'
 
+-- what has gone out for packets
+abbrev pub gone_for : RecordJob → List Packet → List (List Frame)
+gone_for job h = gone_out (rules_in job.plan) h
+
 -- a packet behind others was accepted or refused, which changed the receiver and what went out
 pub record Offers (job : RecordJob) (v v' : View) (x : Packet) (got got' : Option (List ℕ))
     (heard : Heard) : Type 0 where
   pub of_session : IsOfSession heard
   pub stands : (h : List Packet) → StandsFor v h → StandsFor v' (h ++ x ∷ [])
   pub out : (h : List Packet) → StandsFor v h
-      → Gained got got' (sent job.plan h) (sent job.plan (h ++ x ∷ []))
+      → Gained got got' (gone_for job h) (gone_for job (h ++ x ∷ []))
   pub accepts : (h : List Packet) → StandsFor v h
       → length (accepted (rules_in job.plan) (h ++ x ∷ []))
       ≡ length (accepted (rules_in job.plan) h) + taken_in heard
@@ -89,7 +93,7 @@ pub record Offers (job : RecordJob) (v v' : View) (x : Packet) (got got' : Optio
 pub record OffersPart (job : RecordJob) (v : View) (x : Packet) (got got' : Option (List ℕ))
     : Type 0 where
   pub out : (h : List Packet) → StandsFor v h
-      → GainedPart got got' (sent job.plan h) (sent job.plan (h ++ x ∷ []))
+      → GainedPart got got' (gone_for job h) (gone_for job (h ++ x ∷ []))
 
 -- the packets among records
 abbrev pub among : RecordJob → List (List ℕ) → List Packet
@@ -102,8 +106,8 @@ pub record Hears (job : RecordJob) (v v' : View) (octets : List ℕ) (got got' :
   pub stands : (records : List (List ℕ)) → StandsFor v (among job records)
       → StandsFor v' (among job (records ++ octets ∷ []))
   pub out : (records : List (List ℕ)) → StandsFor v (among job records)
-      → Gained got got' (sent job.plan (among job records))
-      (sent job.plan (among job (records ++ octets ∷ [])))
+      → Gained got got' (gone_for job (among job records))
+      (gone_for job (among job (records ++ octets ∷ [])))
   pub accepts : (records : List (List ℕ)) → StandsFor v (among job records)
       → length (accepted (rules_in job.plan) (among job (records ++ octets ∷ [])))
       ≡ length (accepted (rules_in job.plan) (among job records)) + taken_in heard
@@ -113,13 +117,13 @@ pub record Hears (job : RecordJob) (v v' : View) (octets : List ℕ) (got got' :
 pub record HearsPart (job : RecordJob) (v : View) (octets : List ℕ) (got got' : Option (List ℕ))
     : Type 0 where
   pub out : (records : List (List ℕ)) → StandsFor v (among job records)
-      → GainedPart got got' (sent job.plan (among job records))
-      (sent job.plan (among job (records ++ octets ∷ [])))
+      → GainedPart got got' (gone_for job (among job records))
+      (gone_for job (among job (records ++ octets ∷ [])))
 
 -- a session ended: the blocks that were held went out, and all are counted
 pub record EndsSession (job : RecordJob) (v v' : View) (got got' : Option (List ℕ)) : Type 0 where
   pub out : (h : List Packet) → StandsFor v h
-      → Gained got got' (sent job.plan h) (released (rules_in job.plan) h)
+      → Gained got got' (gone_for job h) (released (rules_in job.plan) h)
   pub late : v'.counts.late ≡ v.counts.late
   pub copies : v'.counts.copies ≡ v.counts.copies
   pub blocks : (h : List Packet) → StandsFor v h
@@ -128,4 +132,4 @@ pub record EndsSession (job : RecordJob) (v v' : View) (got got' : Option (List 
 -- a front of the blocks that were held went out
 pub record EndsPart (job : RecordJob) (v : View) (got got' : Option (List ℕ)) : Type 0 where
   pub out : (h : List Packet) → StandsFor v h
-      → GainedPart got got' (sent job.plan h) (released (rules_in job.plan) h)
+      → GainedPart got got' (gone_for job h) (released (rules_in job.plan) h)

@@ -1,6 +1,6 @@
 // Hearing a record: a packet of the session goes to the receiver, and any other record is passed over.
-ghost use Rattle.std.specs.Prelude.{◌≡◌, ◌≤◌, ◌^◌, ℕ, IfOk, OnErr, OnOk, false};
-ghost use Rattle.amr_gateway.specs.Going.{IsBounded, TakesRecord};
+ghost use Rattle.std.specs.Prelude.{◌≡◌, IfOk, OnErr, OnOk, false};
+ghost use Rattle.amr_gateway.specs.Going.{TakesRecord};
 ghost use Rattle.amr_gateway.specs.Hearing.{EndsPart, EndsSession, Hears, HearsPart, Offers, OffersPart};
 ghost use Rattle.amr_gateway.specs.Jobs.{IsServed};
 ghost use Rattle.amr_io.specs.Fault.{HasCause};
@@ -95,10 +95,8 @@ fn offer<O: Sink>(
     let mut writer = StoreWriter::resume(profile.codec, profile.channels, output);
     match receiver.offer(rtp, payload, &mut writer) {
         Ok(_) => Ok(Heard::Accepted),
+        Err(Offered::Refused(_)) => Ok(Heard::NoPlace),
         Err(Offered::BlockFault) => Err(Failed),
-        Err(Offered::OtherSource { .. }) => Ok(Heard::NoPlace),
-        Err(Offered::OffGrid { .. }) => Ok(Heard::NoPlace),
-        Err(Offered::FarAhead { .. }) => Ok(Heard::NoPlace),
     }
 }
 
@@ -112,8 +110,7 @@ pub fn end_session<O: Sink>(
 ) -> Result<(), Failed>
     requires served { IsServed job.now }
     requires plan { receiver.old.plan ≡ job.now.plan }
-    requires ready { (receiver.old.spent ≡ false)
-        × (n : ℕ) × (n ≤ 2 ^ 40) × IsBounded n receiver.old }
+    requires unspent { receiver.old.spent ≡ false }
 
     ensures ended { OnOk result (EndsSession job.now receiver.old receiver.new
         (O.got output.old) (O.got output.new)) }

@@ -1,5 +1,5 @@
 -- What accepting a packet changes in what is kept of a session.
-use Rattle.std.proofs.Common.{ℕ, max, ◌+◌, ◌-◌, ◌*◌, ◌%◌, ◌^◌, ◌<◌, ◌≤◌, ◌≡◌, List, [], ◌∷◌, ◌++◌, length, refl, sym, ap, ◌∙◌, subst, arith, true, Option, Some, None, ℤ, pos, ◌-ℤ◌, append_assoc, append-nil, length-append, inl, inr, ◌⊎◌}
+use Rattle.std.proofs.Common.{ℕ, max, ◌+◌, ◌-◌, ◌%◌, ◌^◌, ◌<◌, ◌≤◌, ◌≡◌, List, [], ◌∷◌, ◌++◌, length, refl, sym, ap, ◌∙◌, subst, arith, true, Option, Some, None, ℤ, pos, ◌-ℤ◌, append_assoc, append-nil, length-append, inl, inr, ◌⊎◌}
 use Rattle.std.specs.Prelude.{◌≤ℤ◌, ◌<ℤ◌, int_lt, map, sum}
 use Rattle.std.specs.Int.{int_max}
 use Rattle.std.specs.List.{AllByRecursion}
@@ -9,10 +9,9 @@ use Rattle.std.proofs.lemmas.Int.{ints, clamps}
 use Rattle.amr_frame.specs.Frames.{Frame}
 use Rattle.amr_playout.specs.Copied.{IsEdge}
 use Rattle.amr_playout.specs.Shown.{Shows}
-use Rattle.amr_playout.specs.Standing.{Holds, IsInside, Reaches, ShowsBefore, edge_with, horizon_with, out_before, placed, sent_at, sent_of}
+use Rattle.amr_playout.specs.Standing.{Holds, IsInside, Reaches, ShowsBefore, edge_with, horizon_with, last_from, out_before, placed}
 use Rattle.amr_playout.specs.Window.{at, base_of, out_to, window_of}
 use Rattle.amr_playout.specs.declared.session.Begun.{Begun}
-use Rattle.amr_playout.specs.declared.session.Head.{Head}
 use Rattle.amr_playout.proofs.Cells.{Within}
 use Rattle.amr_playout.proofs.Holding.{IsWhole, copies_of_more, fresh_shows, greatest_last_more, new_last, new_past, new_within, reaches_kept, reaches_last, taken_shows, within_more}
 use Rattle.amr_playout.proofs.Plans.{Facts}
@@ -21,21 +20,20 @@ use Rattle.amr_playout.specs.Plans.{rules_in}
 use Rattle.amr_playout.specs.declared.plan.Plan.{Plan}
 use Rattle.amr_playout.proofs.Out.{late_out, least-le, least_past, least_same, none_out, released_all, released_now}
 use Rattle.session_laws.proofs.Prefix.{Past}
-use Rattle.spec_payload.specs.Values.{Value}
 use Rattle.spec_session.specs.Copies.{Copy, copies_in, copies_of}
-use Rattle.spec_session.specs.Release.{blocks_between, least, released_of, released_to}
-use Rattle.spec_session.specs.Session.{Accept, Accepted, Rules, blocks_in, greatest_last, horizon_of, last_place, taken, verdict, with_packet}
+use Rattle.spec_session.specs.Release.{blocks_between, gone_at, gone_of, least, released_of, released_to}
+use Rattle.spec_session.specs.Session.{Accepted, Rules, blocks_in, greatest_last, horizon_of, last_place}
 use Rattle.spec_session.specs.Counts.{late_in}
 use Rattle.spec_session.specs.Packets.{Packet}
 
 -- places of a packet that is accepted now are in time past the edge
-pub edge_is : (rules : Rules) (before : Option Begun) (head : Head) (value : Value) (place : ℕ) → 1 ≤ place → ((s : Begun) → before ≡ Some s → rules.window ≤ s.horizon) →
-    IsEdge rules (placed before head value place) (at (edge_with rules before place))
-edge_is rules None head value place some wide q le = sym (lt_is (at (place - 1)) q (omega (arith, ints)))
+pub edge_is : (rules : Rules) (before : Option Begun) (p : Packet) (place : ℕ) → 1 ≤ place → ((s : Begun) → before ≡ Some s → rules.window ≤ s.horizon) →
+    IsEdge rules (placed before p place) (at (edge_with rules before place))
+edge_is rules None p place some wide q le = sym (lt_is (at (place - 1)) q (omega (arith, ints)))
   where
     lt_is : (a b : ℤ) → a <ℤ b → int_lt a b ≡ true
     lt_is a b h = grind (arith, ints)
-edge_is rules (Some s) head value place some wide q le =
+edge_is rules (Some s) p place some wide q le =
     let w : rules.window ≤ s.horizon = wide s refl in
     let e : at s.horizon -ℤ pos rules.window ≡ at (s.horizon - rules.window) = omega (arith, ints) in
     ap (λ z. int_lt z q) e
@@ -48,12 +46,12 @@ before_shows rules (Some s) cells [] holds = absurd holds
 before_shows rules (Some s) cells (a ∷ rest) holds = (holds.some, holds.shows)
 
 -- what was sent is what went out
-pub before_sent : (rules : Rules) (before : Option Begun) (cells : List (Option Frame)) (acc : List Accepted) → Holds rules before cells acc → sent_of rules acc ≡ out_before rules before (copies_of rules acc)
+pub before_sent : (rules : Rules) (before : Option Begun) (cells : List (Option Frame)) (acc : List Accepted) → Holds rules before cells acc → gone_of rules acc ≡ out_before rules before (copies_of rules acc)
 before_sent rules None cells [] holds = refl
 before_sent rules None cells (a ∷ rest) holds = absurd holds
 before_sent rules (Some s) cells [] holds = absurd holds
 before_sent rules (Some s) cells (a ∷ rest) holds =
-    ap (λ h. sent_at rules (Some h) (copies_of rules (a ∷ rest))) (sym holds.horizon)
+    ap (λ h. gone_at rules (Some h) (copies_of rules (a ∷ rest))) (sym holds.horizon)
     ∙ released_now rules (at s.horizon) (copies_of rules (a ∷ rest)) holds.some holds.shows.within holds.reaches
 
 -- an accepted packet stands from place to last, and the horizon is then reached
@@ -119,7 +117,7 @@ topped rules a edge horizon cs whole is within up (inr old) = (
   reaches_kept horizon cs (copies_in rules a) old.0 (new_within rules a horizon whole up) old.1,
 )
 
-step_up : (before : Option Begun) (last horizon : ℕ) → horizon ≡ horizon_with before last → last ≤ horizon
+pub step_up : (before : Option Begun) (last horizon : ℕ) → horizon ≡ horizon_with before last → last ≤ horizon
 step_up None last horizon is = omega arith
 step_up (Some s) last horizon is = omega arith
 
@@ -153,14 +151,14 @@ step_top rules before a place last horizon step top =
     (subst (λ z. at horizon ≤ℤ z) is (omega (arith, ints)), subst (λ z. at (edge_with rules before place) <ℤ z) is (omega (arith, ints)))
 
 -- the packet is kept with those before it
-pub step_holds : (rules : Rules) (before : Option Begun) (old mid cells : List (Option Frame)) (acc : List Accepted) (head : Head) (value : Value) (place last horizon next next' : ℕ) (source origin : ℕ) →
-    IsPlaced rules before (placed before head value place) place last horizon → IsMerged rules mid cells (placed before head value place) horizon next next' →
+pub step_holds : (rules : Rules) (before : Option Begun) (old mid cells : List (Option Frame)) (acc : List Accepted) (p : Packet) (place last horizon next next' : ℕ) (source origin : ℕ) →
+    IsPlaced rules before (placed before p place) place last horizon → IsMerged rules mid cells (placed before p place) horizon next next' →
     Shows rules (at horizon) (at next) mid (copies_of rules acc) →
-    (before ≡ None → (source ≡ head.ssrc) × (origin ≡ head.timestamp)) → ((s : Begun) → before ≡ Some s → (source ≡ s.source) × (origin ≡ s.origin)) →
+    (before ≡ None → (source ≡ p.ssrc) × (origin ≡ p.timestamp)) → ((s : Begun) → before ≡ Some s → (source ≡ s.source) × (origin ≡ s.origin)) →
     Holds rules before old acc →
-    Holds rules (Some (record { source = source; origin = origin; horizon = horizon; next = next' })) cells (acc ++ placed before head value place ∷ [])
-step_holds rules None old mid cells [] head value place last horizon next next' source origin step merge shows fresh going holds =
-    let a : Accepted = placed None head value place in
+    Holds rules (Some (record { source = source; origin = origin; horizon = horizon; next = next' })) cells (acc ++ placed before p place ∷ [])
+step_holds rules None old mid cells [] p place last horizon next next' source origin step merge shows fresh going holds =
+    let a : Accepted = placed None p place in
     let same : copies_of rules (a ∷ []) ≡ [] ++ copies_in rules a = append-nil (copies_in rules a) in
     let is = step.horizon_is in
     let top = topped rules a (at (edge_with rules None place)) (at horizon) [] step.whole step.edge tt (step_within rules None a place last horizon step)
@@ -173,10 +171,10 @@ step_holds rules None old mid cells [] head value place last horizon next next' 
       reaches = subst (Reaches (at horizon)) (sym same) top.1;
       shows = subst (Shows rules (at horizon) (at next') cells) (sym same) (step_shows rules None mid cells a place last horizon next next' [] step merge shows);
     }
-step_holds rules None old mid cells (x ∷ acc) head value place last horizon next next' source origin step merge shows fresh going holds = absurd holds
-step_holds rules (Some s) old mid cells [] head value place last horizon next next' source origin step merge shows fresh going holds = absurd holds
-step_holds rules (Some s) old mid cells (start ∷ rest) head value place last horizon next next' source origin step merge shows fresh going holds =
-    let a : Accepted = placed (Some s) head value place in
+step_holds rules None old mid cells (x ∷ acc) p place last horizon next next' source origin step merge shows fresh going holds = absurd holds
+step_holds rules (Some s) old mid cells [] p place last horizon next next' source origin step merge shows fresh going holds = absurd holds
+step_holds rules (Some s) old mid cells (start ∷ rest) p place last horizon next next' source origin step merge shows fresh going holds =
+    let a : Accepted = placed (Some s) p place in
     let cs : List Copy = copies_of rules (start ∷ rest) in
     let same : copies_of rules (start ∷ (rest ++ a ∷ [])) ≡ cs ++ copies_in rules a = copies_of_more rules (start ∷ rest) a in
     let is : horizon ≡ max s.horizon last = step.horizon_is in
@@ -198,9 +196,9 @@ step_holds rules (Some s) old mid cells (start ∷ rest) head value place last h
 
 -- what has been sent, by the copies before and the new ones
 sent_top : (rules : Rules) (h : ℤ) (acc : List Accepted) (cs new : List Copy) → horizon_of rules acc ≡ Some h → copies_of rules acc ≡ cs ++ new → (0 < length (cs ++ new)) × Reaches h (cs ++ new) → Within h (cs ++ new) → Past (h -ℤ pos rules.window) new →
-    sent_of rules acc ≡ out_to rules h cs (h -ℤ pos rules.window)
+    gone_of rules acc ≡ out_to rules h cs (h -ℤ pos rules.window)
 sent_top rules h acc cs new horizon_is copies_is top within past =
-    ap (λ o. sent_at rules o (copies_of rules acc)) horizon_is
+    ap (λ o. gone_at rules o (copies_of rules acc)) horizon_is
     ∙ ap (λ ds. released_to rules ds (h -ℤ pos rules.window)) copies_is
     ∙ released_now rules h (cs ++ new) top.0 within top.1
     ∙ late_out rules h (h -ℤ pos rules.window) cs new past
@@ -209,21 +207,21 @@ past_window : (rules : Rules) (h : ℤ) (new : List Copy) → Past (base_of rule
 past_window rules h new past = subst (λ t. Past t new) (let e : (base_of rules h -ℤ pos 1) ≡ (h -ℤ pos rules.window) = omega (arith, ints) in e) past
 
 -- and what has been sent is what went out on the way
-pub sent_after : (rules : Rules) (before : Option Begun) (old : List (Option Frame)) (acc : List Accepted) (head : Head) (value : Value) (place last horizon : ℕ) →
-    IsPlaced rules before (placed before head value place) place last horizon → Holds rules before old acc →
-    sent_of rules (acc ++ placed before head value place ∷ []) ≡ out_to rules (at horizon) (copies_of rules acc) (at horizon -ℤ pos rules.window)
-sent_after rules None old [] head value place last horizon step holds =
-    let a : Accepted = placed None head value place in
+pub sent_after : (rules : Rules) (before : Option Begun) (old : List (Option Frame)) (acc : List Accepted) (p : Packet) (place last horizon : ℕ) →
+    IsPlaced rules before (placed before p place) place last horizon → Holds rules before old acc →
+    gone_of rules (acc ++ placed before p place ∷ []) ≡ out_to rules (at horizon) (copies_of rules acc) (at horizon -ℤ pos rules.window)
+sent_after rules None old [] p place last horizon step holds =
+    let a : Accepted = placed None p place in
     let low = step_within rules None a place last horizon step in
     let is = step.horizon_is in
     sent_top rules (at horizon) (a ∷ []) [] (copies_in rules a) (ap Some (sym (ap at is ∙ step.last_is))) (append-nil (copies_in rules a))
     (topped rules a (at (edge_with rules None place)) (at horizon) [] step.whole step.edge tt low (inl (step_top rules None a place last horizon step (omega arith))))
     (new_within rules a (at horizon) step.whole low)
     (past_window rules (at horizon) (copies_in rules a) (step_past rules None a place last horizon step))
-sent_after rules None old (x ∷ acc) head value place last horizon step holds = absurd holds
-sent_after rules (Some s) old [] head value place last horizon step holds = absurd holds
-sent_after rules (Some s) old (start ∷ rest) head value place last horizon step holds =
-    let a : Accepted = placed (Some s) head value place in
+sent_after rules None old (x ∷ acc) p place last horizon step holds = absurd holds
+sent_after rules (Some s) old [] p place last horizon step holds = absurd holds
+sent_after rules (Some s) old (start ∷ rest) p place last horizon step holds =
+    let a : Accepted = placed (Some s) p place in
     let cs : List Copy = copies_of rules (start ∷ rest) in
     let low = step_within rules (Some s) a place last horizon step in
     let is : horizon ≡ max s.horizon last = step.horizon_is in
@@ -244,12 +242,12 @@ sent_after rules (Some s) old (start ∷ rest) head value place last horizon ste
 
 begun_by : (rules : Rules) (before : Option Begun) → IsInside rules before → (s : Begun) → before ≡ Some s → 2 ^ 24 ≤ s.horizon
 begun_by rules None inside s e = absurd cc
-begun_by rules (Some t) inside s e = subst (λ (u : Begun). 2 ^ 24 ≤ u.horizon) (let f : t ≡ s = cc in f) inside.0
+begun_by rules (Some t) inside s e = subst (λ (u : Begun). 2 ^ 24 ≤ u.horizon) (let f : t ≡ s = cc in f) inside.0.0
 
 -- the packet at its place
-pub is_placed : (plan : Plan) (before : Option Begun) (head : Head) (v : Value) (place last horizon : ℕ) → Facts plan → 0 < length v.frames → length v.frames % plan.profile.channels ≡ 0 → IsInside (rules_in plan) before → 4096 ≤ place →
-    last ≡ place + (blocks_in (rules_in plan) v - 1) * v.stride → last < place + plan.window → place ≤ last → horizon ≡ horizon_with before last → IsPlaced (rules_in plan) before (placed before head v place) place last horizon
-is_placed plan before head v place last horizon f some whole inside high last_is fits after horizon_is =
+pub is_placed : (plan : Plan) (before : Option Begun) (p : Packet) (place last horizon : ℕ) → Facts plan → 0 < length p.value.frames → length p.value.frames % plan.profile.channels ≡ 0 → IsInside (rules_in plan) before → 4096 ≤ place →
+    last ≡ last_from (rules_in plan) p.value place → last < place + plan.window → place ≤ last → horizon ≡ horizon_with before last → IsPlaced (rules_in plan) before (placed before p place) place last horizon
+is_placed plan before p place last horizon f some whole inside high last_is fits after horizon_is =
     let rules : Rules = rules_in plan in
     let begun = begun_by rules before inside in
     let narrow = f.narrow in
@@ -262,8 +260,8 @@ is_placed plan before head v place last horizon f some whole inside high last_is
       after = after;
       fits = fits;
       here = refl;
-      last_is = ap at last_is ∙ spot_at (placed before head v place) v place (blocks_in rules v - 1) refl refl;
-      edge = edge_is rules before head v place (omega arith) (λ s e. let b = begun s e in omega arith);
+      last_is = ap at last_is ∙ spot_at (placed before p place) p.value place (blocks_in rules p.value - 1) refl refl;
+      edge = edge_is rules before p place (omega arith) (λ s e. let b = begun s e in omega arith);
       horizon_is = horizon_is;
     }
 
@@ -280,6 +278,29 @@ next_inside rules before a place last horizon next next' step high low up is =
     let below : least (at next) (copies_in rules a) ≤ℤ at next = least-le (at next) (copies_in rules a) in
     let narrow = step.narrow in
     (omega (arith, ints), omega (arith, ints))
+
+-- the horizon fits where the last place does
+last_small : (rules : Rules) (before : Option Begun) (last : ℕ) → IsInside rules before → last < 2 ^ 63 → horizon_with before last < 2 ^ 63
+last_small rules None last inside low = low
+last_small rules (Some s) last inside low = let fits = inside.1 in omega (arith, fits, low)
+
+pub last_under : (plan : Plan) (place last : ℕ) → Facts plan → place < 2 ^ 62 + 2 ^ 30 → last < place + plan.window → last < 2 ^ 63
+last_under plan place last f below fits = let narrow = f.narrow in omega (arith, narrow, below, fits)
+
+pub reached_small : (plan : Plan) (before : Option Begun) (place last horizon : ℕ) → Facts plan → IsInside (rules_in plan) before → place < 2 ^ 62 + 2 ^ 30
+    → last < place + plan.window → horizon ≡ horizon_with before last → horizon < 2 ^ 63
+reached_small plan before place last horizon f inside below fits is =
+    let small = last_small (rules_in plan) before last inside (last_under plan place last f below fits) in
+    omega (arith, is, small)
+
+-- the window begins at or before the packet, or behind the edge
+pub low_base : (rules : Rules) (before : Option Begun) (place last horizon w edge : ℕ) → w ≡ rules.window → edge ≡ edge_with rules before place
+    → horizon ≡ horizon_with before last → last < place + rules.window → (horizon + 1 - w ≤ place) ⊎ (horizon + 1 - w ≤ edge + 1)
+low_base rules None place last horizon w edge width edge_is is fits = inl (omega (arith, width, is, fits))
+low_base rules (Some s) place last horizon w edge width edge_is is fits = elim (cases_lt s.horizon last) [
+  | inl l ↦ inl (omega (arith, width, is, fits, l))
+  | inr l ↦ inr (omega (arith, width, is, edge_is, l))
+]
 
 -- ---- before the first packet
 
@@ -303,10 +324,8 @@ map-more : (f : Accepted → ℕ) (xs : List Accepted) (x : Accepted) → map f 
 map-more f [] x = refl
 map-more f (y ∷ xs) x = ap (λ ns. f y ∷ ns) (map-more f xs x)
 
-pub late_more : (rules : Rules) (acc : List Accepted) (x : Packet) (a : Accepted) → verdict rules acc x ≡ Accept a → sum (map (late_in rules) (with_packet rules acc x)) ≡ sum (map (late_in rules) acc) + late_in rules a
-late_more rules acc x a e =
-    ap (λ v. sum (map (late_in rules) (acc ++ taken v))) e
-    ∙ ap sum (map-more (late_in rules) acc a) ∙ sum-more (map (late_in rules) acc) (late_in rules a)
+pub late_more : (rules : Rules) (acc : List Accepted) (a : Accepted) → sum (map (late_in rules) (acc ++ a ∷ [])) ≡ sum (map (late_in rules) acc) + late_in rules a
+late_more rules acc a = ap sum (map-more (late_in rules) acc a) ∙ sum-more (map (late_in rules) acc) (late_in rules a)
 
 -- ---- the end
 
@@ -322,7 +341,7 @@ rest_is rules s cells (start ∷ rest) holds =
     ∙ ap (λ z. blocks_between rules cs z h) (sym (least_same h (at (s.horizon + rules.window)) cs holds.some holds.shows.within up))
     ∙ ap (blocks_between rules cs (least (at (s.horizon + rules.window)) cs)) (sym back)
 
-pub none_released : (rules : Rules) (before : Option Begun) (cells : List (Option Frame)) (acc : List Accepted) → before ≡ None → Holds rules before cells acc → released_of rules (copies_of rules acc) ≡ sent_of rules acc
+pub none_released : (rules : Rules) (before : Option Begun) (cells : List (Option Frame)) (acc : List Accepted) → before ≡ None → Holds rules before cells acc → released_of rules (copies_of rules acc) ≡ gone_of rules acc
 none_released rules None cells [] e holds = refl
 none_released rules None cells (a ∷ acc) e holds = absurd holds
 none_released rules (Some s) cells acc e holds = absurd cc

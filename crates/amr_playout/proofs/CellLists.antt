@@ -1,5 +1,5 @@
 -- Lists of cells, and what they hold.
-use Rattle.std.proofs.Common.{ℕ, zero, suc, ◌<◌, ◌≡◌, Bool, true, false, cond, List, [], ◌∷◌, ◌++◌, length, take, drop, replicate, get_or, set, slice_get, refl, ap, ◌∙◌, arith, Some, None}
+use Rattle.std.proofs.Common.{ℕ, zero, suc, ◌<◌, ◌≡◌, Bool, true, false, cond, List, [], ◌∷◌, ◌++◌, length, take, drop, replicate, get_or, set, slice_get, refl, sym, ap, ◌∙◌, arith, Some, None}
 use Rattle.std.specs.Prelude.{is_some}
 use Rattle.std.specs.List.{AllByRecursion}
 use Rattle.amr_frame.specs.declared.cell.Cell.{Cell}
@@ -7,7 +7,9 @@ use Rattle.amr_frame.specs.declared.codec.Codec.{Codec}
 use Rattle.amr_frame.specs.Blocks.{frames_of}
 use Rattle.amr_frame.specs.Cells.{IsCell, IsCellBy, frame_of, held}
 use Rattle.amr_frame.specs.Frames.{no_data}
+use Rattle.amr_playout.specs.Ring.{IsFull, KeepsRing}
 use Rattle.amr_playout.specs.Window.{held_of, item}
+use Rattle.circular_buffer.specs.Buffer.{Buffer}
 
 pub held-replicate : (n : ℕ) (x : Cell) → held x ≡ None → held_of (replicate n x) ≡ replicate n None
 held-replicate zero x e = refl
@@ -91,3 +93,10 @@ no_slot (y ∷ xs) (suc i) e h = no_slot xs i e (omega arith)
 
 pub present_held : (x : Cell) → x.present ≡ true → held x ≡ Some (frame_of x)
 present_held x p = ap (λ b. cond b (Some (frame_of x)) None) p
+
+-- a step that keeps a ring leaves a full one full
+pub still_full : (codec : Codec) (old new : Buffer Cell) → IsFull codec old → KeepsRing codec old new → IsFull codec new
+still_full codec old new full kept = record {
+  full = kept.size ∙ full.full ∙ sym kept.capacity;
+  valid = kept.valid;
+}

@@ -8,7 +8,6 @@ use Rattle.amr_merge.proofs.Ranks.{better_none}
 use Rattle.amr_frame.specs.declared.codec.Codec.{Codec}
 use Rattle.amr_frame.specs.Frames.{Frame}
 use Rattle.amr_playout.proofs.Cells.{apart, both_here}
-use Rattle.amr_playout.specs.Window.{repeated}
 use Rattle.spec_session.specs.Copies.{Copy}
 use Rattle.spec_session.specs.Counts.{different}
 use Rattle.spec_session.specs.Quality.{best, better, quality}
@@ -117,16 +116,21 @@ has_best codec (x ∷ cs) p c =
           ∙ has_best codec cs p c ∙ sym (found_later x cs p c f)
     ] refl
 
--- one copy more
-pub repeated_more : (codec : Codec) (cs : List Copy) (d : Copy) → repeated (cs ++ d ∷ []) ≡ repeated cs + cond (is_some (best_at codec cs d.place d.channel)) 1 0
-repeated_more codec cs d =
-    let l : length (cs ++ d ∷ []) ≡ length cs + 1 = length-append cs (d ∷ []) in
-    let le = different-le cs in
-    ap (λ n. n - different (cs ++ d ∷ [])) l
-    ∙ ap (λ n. (length cs + 1) - n) (different_more cs d)
-    ∙ one (has cs d.place d.channel) (length cs) (different cs) le
-    ∙ ap (λ b. repeated cs + cond b 1 0) (sym (has_best codec cs d.place d.channel))
+-- one copy more is different from the others, or came for a place and channel that had one
+pub different_best : (codec : Codec) (cs : List Copy) (d : Copy)
+    → different (cs ++ d ∷ []) + cond (is_some (best_at codec cs d.place d.channel)) 1 0 ≡ different cs + 1
+different_best codec cs d =
+    ap (λ b. different (cs ++ d ∷ []) + cond b 1 0) (has_best codec cs d.place d.channel)
+    ∙ one (has cs d.place d.channel) (different (cs ++ d ∷ [])) (different cs) (different_more cs d)
   where
-    one : (b : Bool) (n m : ℕ) → m ≤ n → (n + 1) - (m + cond b 0 1) ≡ (n - m) + cond b 1 0
-    one true n m le = omega arith
-    one false n m le = omega arith
+    one : (b : Bool) (n m : ℕ) → n ≡ m + cond b 0 1 → n + cond b 1 0 ≡ m + 1
+    one true n m e = omega (arith, e)
+    one false n m e = omega (arith, e)
+
+-- the copies that came for a place and channel that had one, by those of them that did not
+pub again_more : (cs ds : List Copy) (n : ℕ) → different (cs ++ ds) + n ≡ different cs + length ds
+    → length (cs ++ ds) - different (cs ++ ds) ≡ (length cs - different cs) + n
+again_more cs ds n e =
+    let l = length-append cs ds in
+    let le = different-le cs in
+    omega (arith, e, l, le)

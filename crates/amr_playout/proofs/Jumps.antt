@@ -6,7 +6,12 @@ use Rattle.std.proofs.lemmas.List.{get_or-replicate, get_or_past, length-replica
 use Rattle.amr_frame.specs.Frames.{Frame, no_data}
 use Rattle.amr_playout.proofs.Ranges.{joined_maps, map_map, shifted_maps}
 use Rattle.amr_playout.proofs.Spans.{is_map}
-use Rattle.amr_playout.specs.Window.{item, row, rows, slid}
+use Rattle.amr_playout.proofs.CellLists.{length-held}
+use Rattle.amr_playout.specs.Ring.{IsRing}
+use Rattle.amr_playout.specs.Window.{held_of, item, row, rows, slid}
+use Rattle.amr_playout.specs.declared.plan.Plan.{Plan}
+use Rattle.amr_frame.specs.declared.cell.Cell.{Cell}
+use Rattle.circular_buffer.specs.Buffer.{Buffer}
 use Rattle.spec_session.specs.Quality.{stored}
 
 further : (w m c : ℕ) → (w + m) * c ≡ w * c + m * c
@@ -56,3 +61,19 @@ slid_jump c xs w count pass len is = elim (cases_lt count w) [
       ∙ shifted_maps (item xs) (item xs) ((w + 0) * c) ((w + (count - w)) * c) (length xs) (λ k h. item_past xs c w 0 k len ∙ sym (item_past xs c w (count - w) k len))
       ∙ ap (λ n. slid xs (n * c)) (sym more)
 ]
+
+-- the same for the ring of a plan, by the numbers that the code has
+pub plan_rows : (plan : Plan) (ring : Buffer Cell) (skip count pass w n : ℕ) → IsRing plan ring → skip ≤ plan.window → w ≡ plan.window
+    → n ≡ plan.profile.channels → pass ≡ min count w
+    → rows plan.profile.channels (held_of ring.items) skip (count - skip)
+    ≡ rows n (held_of ring.items) skip (pass - skip) ++ replicate (count - pass) (replicate n no_data)
+plan_rows plan ring skip count pass w n full le width channels is =
+    let xs : List (Option Frame) = held_of ring.items in
+    rows_jump plan.profile.channels xs plan.window skip count pass (length-held ring.items ∙ full.full) le (is ∙ ap (min count) width)
+    ∙ ap (λ k. rows k xs skip (pass - skip) ++ replicate (count - pass) (replicate k no_data)) (sym channels)
+
+pub plan_slid : (plan : Plan) (ring : Buffer Cell) (count pass w n : ℕ) → IsRing plan ring → w ≡ plan.window → n ≡ plan.profile.channels
+    → pass ≡ min count w → slid (held_of ring.items) (pass * n) ≡ slid (held_of ring.items) (count * plan.profile.channels)
+plan_slid plan ring count pass w n full width channels is =
+    ap (λ k. slid (held_of ring.items) (pass * k)) channels
+    ∙ slid_jump plan.profile.channels (held_of ring.items) plan.window count pass (length-held ring.items ∙ full.full) (is ∙ ap (min count) width)

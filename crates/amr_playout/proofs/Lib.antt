@@ -5,9 +5,10 @@ pub mod Counts
 pub mod Ended
 pub mod Fronts
 pub mod Holding
+pub mod Judging
 pub mod Jumps
 pub mod Late
-pub mod Nearness
+pub mod Offering
 pub mod Out
 pub mod Payloads
 pub mod Plans

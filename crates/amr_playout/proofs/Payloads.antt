@@ -1,19 +1,14 @@
 -- What a payload that was read says of a plan's window.
-use Rattle.std.proofs.Common.{ℕ, zero, suc, ◌+◌, ◌-◌, ◌*◌, ◌/◌, ◌%◌, ◌<◌, ◌≤◌, ◌≡◌, length, ap, ◌∙◌, subst, arith, Option, Some, None}
-use Rattle.std.proofs.lemmas.Nat.{div-mul-add, mod-mul-add, mul-le}
+use Rattle.std.proofs.Common.{ℕ, zero, suc, ◌+◌, ◌-◌, ◌*◌, ◌/◌, ◌%◌, ◌<◌, ◌≤◌, ◌≡◌, length, ap, ◌∙◌, subst, arith, inl, inr, Option, Some, None}
+use Rattle.std.proofs.lemmas.Bool.{cases_lt}
+use Rattle.std.proofs.lemmas.Nat.{div-add-mod', div-mul-add, mod-mul-add, mul-le}
 use Rattle.amr_frame.specs.declared.profile.Profile.{Profile}
 use Rattle.amr_frame.specs.Profiles.{group_bound}
 use Rattle.amr_playout.specs.Plans.{most_together}
 use Rattle.amr_playout.specs.declared.plan.Plan.{Plan}
 use Rattle.amr_playout.proofs.Plans.{Facts}
+use Rattle.amr_playout.specs.Standing.{IsFitting}
 use Rattle.spec_payload.specs.Values.{FitsGroup, IsValue, Value}
-
--- the frames are whole blocks, and stand in one window
-pub record Fitting (plan : Plan) (v : Value) : Type 0 where
-  pub some : 0 < length v.frames
-  pub whole : length v.frames % plan.profile.channels ≡ 0
-  pub few : length v.frames ≤ 384
-  pub fits : (length v.frames / plan.profile.channels - 1) * v.stride < plan.window
 
 one_less : (b s : ℕ) → 1 ≤ b → 1 ≤ s → (b - 1) * s < b * s
 one_less zero s h k = absurd (omega arith)
@@ -26,7 +21,7 @@ group_fits (Some group) blocks most window v some le wide g =
     let high = g.3 in
     omega (arith, low, high)
 
-pub fitting : (plan : Plan) (p : Profile) (v : Value) → Facts plan → p ≡ plan.profile → IsValue p v → Fitting plan v
+pub fitting : (plan : Plan) (p : Profile) (v : Value) → Facts plan → p ≡ plan.profile → IsValue p v → IsFitting plan v
 fitting plan p v f same is =
     let n : ℕ = plan.profile.channels in
     let b : ℕ = is.blocks in
@@ -43,3 +38,15 @@ fitting plan p v f same is =
       fits = rw count (group_fits (group_bound plan.profile.interleaving) b plan.profile.max_blocks plan.window v is.some most f.together
           (subst (λ (q : Profile). FitsGroup (group_bound q.interleaving) b v) same is.group));
     }
+
+-- there is a block
+pub some_block : (n len : ℕ) → 0 < len → len % n ≡ 0 → 1 ≤ len / n
+some_block n len some whole =
+    elim (cases_lt 0 (len / n)) [
+      | inl lt ↦ omega (arith, lt)
+      | inr ge ↦ absurd
+          (let none : len / n ≡ 0 = omega (arith, ge) in
+          let all : len / n * n ≡ len = omega (arith, div-add-mod' len n, whole) in
+          let zero : len / n * n ≡ 0 * n = ap (λ k. k * n) none in
+          omega (arith, all, zero, some))
+    ]

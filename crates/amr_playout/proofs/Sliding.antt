@@ -1,5 +1,5 @@
 -- The window brought up to a later horizon, as the receiver counts places.
-use Rattle.std.proofs.Common.{ℕ, ◌+◌, ◌-◌, ◌*◌, ◌^◌, ◌<◌, ◌≤◌, ◌≡◌, max, List, ◌++◌, length, sym, ap, ◌∙◌, subst, arith, Option, pos, ◌+ℤ◌, ◌-ℤ◌, length-append}
+use Rattle.std.proofs.Common.{ℕ, ◌+◌, ◌-◌, ◌*◌, ◌^◌, ◌<◌, ◌≤◌, ◌≡◌, max, List, ◌++◌, length, refl, sym, ap, ◌∙◌, subst, arith, Option, Some, pos, ◌+ℤ◌, ◌-ℤ◌, length-append}
 use Rattle.std.proofs.lemmas.Int.{ints, clamps}
 use Rattle.std.proofs.lemmas.List.FromFn.{length-map-range_with_len}
 use Rattle.amr_frame.specs.Frames.{Frame}
@@ -7,6 +7,11 @@ use Rattle.amr_playout.specs.Shown.{Shows}
 use Rattle.amr_playout.specs.Window.{at, base_of, out_to, row, rows, slid}
 use Rattle.amr_playout.proofs.Holding.{slid_shows}
 use Rattle.amr_playout.proofs.Out.{slid_out}
+use Rattle.amr_playout.proofs.Plans.{Facts, facts}
+use Rattle.amr_playout.specs.Plans.{IsPlan, rules_in}
+use Rattle.amr_playout.specs.Standing.{IsInside}
+use Rattle.amr_playout.specs.declared.plan.Plan.{Plan}
+use Rattle.amr_playout.specs.declared.session.Begun.{Begun}
 use Rattle.spec_session.specs.Copies.{Copy}
 use Rattle.spec_session.specs.Session.{Rules}
 
@@ -54,3 +59,18 @@ slide_shows rules horizon next next' last w ch cells cells' cs s has next_is cel
     (slid_shows rules (at horizon) (at next) (at next') cells cells' cs count s.some has shows
     (omega (arith, ints, clamps))
     (cells_is ∙ ap (λ n. slid cells (count * n)) s.channels))
+
+-- a session's window stands so
+pub slides_by : (plan : Plan) (s : Begun) (last w : ℕ) → IsPlan plan → IsInside (rules_in plan) (Some s) → s.horizon ≤ last
+    → w ≡ plan.window → IsSlide (rules_in plan) s.horizon s.next last w plan.profile.channels
+slides_by plan s last w planned inside up window =
+    let f : Facts plan = facts plan planned in
+    record {
+      some = f.some;
+      narrow = f.narrow;
+      window = window;
+      channels = refl;
+      begun = inside.0.0;
+      later = up;
+      low = inside.0.1;
+    }

@@ -1,10 +1,13 @@
 pub mod Copied
 pub mod Gains
 pub mod Heard
+pub mod Offers
 pub mod Plans
 pub mod Receiver
 pub mod Refusals
 pub mod Ring
 pub mod Shown
 pub mod Standing
+pub mod Steps
+pub mod Verdicts
 pub mod Window

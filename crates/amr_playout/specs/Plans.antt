@@ -18,9 +18,10 @@ most_together blocks (Some group) = max blocks group
 
 -- the first rule that a plan breaks: B1 to B6
 abbrev pub plan_fault : Plan → Option PlanFault
-plan_fault plan = first (
-    option_map (λ why. fault.Profile why) (profile_fault plan.profile)
-    ∷ when (nat_lt plan.window (most_together plan.profile.max_blocks (group_bound plan.profile.interleaving)) || nat_lt 4096 plan.window) fault.Window
+plan_fault plan =
+    let together = most_together plan.profile.max_blocks (group_bound plan.profile.interleaving) in
+    first (option_map (λ why. fault.Profile why) (profile_fault plan.profile)
+    ∷ when (nat_lt plan.window together || nat_lt 4096 plan.window) fault.Window
     ∷ when (nat_eq plan.reach 0 || nat_lt 45000 plan.reach) fault.Reach ∷ [])
 
 -- a valid plan breaks none

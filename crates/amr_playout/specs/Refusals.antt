@@ -1,25 +1,22 @@
 -- The answers for packets that aren't accepted.
 use Rattle.std.specs.Prelude.{⊤, ◌≡◌}
-use Rattle.amr_playout.specs.declared.answers.Offered.{Offered as Answer}
-use Rattle.amr_playout.specs.declared.answers.Offered.TheVariants as answer
+use Rattle.amr_playout.specs.declared.answers.Offered.{Offered}
+use Rattle.amr_playout.specs.declared.answers.Offered.TheVariants.{Refused, BlockFault}
+use Rattle.amr_playout.specs.declared.answers.Refusal.{Refusal}
+use Rattle.amr_playout.specs.declared.answers.Refusal.TheVariants as refusal
 use Rattle.spec_session.specs.Session.{Verdict, OtherSource, OffGrid, FarAhead}
 
--- the answer is the refusal of the verdict, with its numbers
-abbrev pub IsRefusal : Verdict → Answer → Type 0
-IsRefusal v (answer.OtherSource kept got) = v ≡ OtherSource kept got
-IsRefusal v (answer.OffGrid delta) = v ≡ OffGrid delta
-IsRefusal v (answer.FarAhead horizon last) = v ≡ FarAhead horizon last
-IsRefusal v answer.BlockFault = ⊥
+-- the refusal is the verdict, with its numbers
+abbrev pub IsRefusal : Verdict → Refusal → Type 0
+IsRefusal v (refusal.OtherSource kept got) = v ≡ OtherSource kept got
+IsRefusal v (refusal.OffGrid delta) = v ≡ OffGrid delta
+IsRefusal v (refusal.FarAhead horizon last) = v ≡ FarAhead horizon last
 
 -- what holds of a refusal, and what holds where the sink failed
-abbrev pub OnRefusal : Answer → Type 0 → Type 0
-OnRefusal (answer.OtherSource kept got) P = P
-OnRefusal (answer.OffGrid delta) P = P
-OnRefusal (answer.FarAhead horizon last) P = P
-OnRefusal answer.BlockFault P = ⊤
+abbrev pub OnRefusal : Offered → (Refusal → Type 0) → Type 0
+OnRefusal (Refused why) P = P why
+OnRefusal BlockFault P = ⊤
 
-abbrev pub OnFault : Answer → Type 0 → Type 0
-OnFault (answer.OtherSource kept got) P = ⊤
-OnFault (answer.OffGrid delta) P = ⊤
-OnFault (answer.FarAhead horizon last) P = ⊤
-OnFault answer.BlockFault P = P
+abbrev pub OnFault : Offered → Type 0 → Type 0
+OnFault (Refused why) P = ⊤
+OnFault BlockFault P = P

@@ -1,11 +1,10 @@
 -- The cells of a window, block by block and within a block in channel order. This project's own.
-use Rattle.std.specs.Prelude.{ℕ, ◌-◌, ◌*◌, ◌/◌, ◌%◌, ◌^◌, List, length, map, slice_index_or, ℤ, pos, ◌+ℤ◌, ◌-ℤ◌, Option, None}
+use Rattle.std.specs.Prelude.{ℕ, ◌*◌, ◌/◌, ◌%◌, ◌^◌, List, length, map, slice_index_or, ℤ, pos, ◌+ℤ◌, ◌-ℤ◌, Option, None}
 use Rattle.std.specs.List.{range_with_len}
 use Rattle.amr_frame.specs.Cells.{held}
 use Rattle.amr_frame.specs.Frames.{Frame}
 use Rattle.amr_frame.specs.declared.cell.Cell.{Cell}
 use Rattle.spec_session.specs.Copies.{Copy}
-use Rattle.spec_session.specs.Counts.{different}
 use Rattle.spec_session.specs.Quality.{stored}
 use Rattle.spec_session.specs.Release.{best_at, blocks_between, least}
 use Rattle.spec_session.specs.Session.{Rules}
@@ -49,7 +48,3 @@ window_of rules cs base = map (cell_at rules cs base) (range_with_len 0 (rules.w
 -- the blocks with places up to t of copies that stand up to the horizon
 abbrev pub out_to : Rules → ℤ → List Copy → ℤ → List (List Frame)
 out_to rules horizon cs t = blocks_between rules cs (least horizon cs) t
-
--- how many of copies came for a place and channel that had one
-abbrev pub repeated : List Copy → ℕ
-repeated cs = length cs - different cs

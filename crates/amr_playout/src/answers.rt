@@ -1,3 +1,5 @@
+// What comes of offering a packet.
+
 /// What an accepted packet gave.
 #[derive(Clone, Copy, Debug, PartialEq, Eq)]
 pub struct Taken {
@@ -9,16 +11,23 @@ pub struct Taken {
     pub released: u64,
 }
 
-/// Why a packet wasn't taken, in the order in which the rules are tested.
+/// Why a packet is refused, in the order in which the rules are tested.
 #[derive(Clone, Copy, Debug, PartialEq, Eq)]
-pub enum Offered {
+pub enum Refusal {
     /// S1: another source (SSRC) than the session's.
     OtherSource { kept: u32, got: u32 },
     /// S2: the timestamp is no multiple of a frame time from the session's first, but `delta` ticks from the horizon's.
     OffGrid { delta: i64 },
     /// S3: the packet's last block stands further past the horizon than the reach.
     FarAhead { horizon: i64, last: i64 },
-    /// S4: the sink failed. The receiver is spent.
+}
+
+/// Why a packet wasn't taken.
+#[derive(Clone, Copy, Debug, PartialEq, Eq)]
+pub enum Offered {
+    /// It is refused: S1 to S3. Nothing has changed.
+    Refused(Refusal),
+    /// S4: it is accepted, but the sink failed. The receiver is spent.
     BlockFault,
 }
 

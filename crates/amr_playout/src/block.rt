@@ -1,9 +1,10 @@
-// Putting out the block at the front of a ring.
-ghost use Rattle.std.specs.List.{AllByRecursion};
-ghost use Rattle.std.specs.Prelude.{◌≡◌, ◌+◌, ◌≤◌, ◌++◌, IsTrue, None, OnErr, OnOk, drop, is_ok, length, map, replicate, take};
-ghost use Rattle.amr_frame.specs.Blocks.{IsPresentBlock, frames_of};
-ghost use Rattle.amr_frame.specs.Cells.{IsCell};
-ghost use Rattle.amr_io.specs.Fault.{HasCause};
+// Putting out blocks: the one at the front of a ring, and blocks for which nothing came.
+ghost use Rattle.std.specs.Prelude.{◌≡◌, ◌+◌, ◌≤◌, ◌++◌, IsTrue, None, OnErr, OnOk, drop, length, map, replicate, take};
+ghost use Rattle.amr_frame.specs.Blocks.{GotBlocks, GotPrefix, IsPresentBlock, frames_of};
+ghost use Rattle.amr_frame.specs.Frames.{no_data};
+ghost use Rattle.amr_frame.specs.Steps.{BlockStep, TakesBlocks};
+ghost use Rattle.amr_frame.specs.declared.codec.Codec.{Codec};
+ghost use Rattle.amr_playout.specs.Ring.{IsFull, KeepsRing};
 ghost use Rattle.amr_playout.specs.Window.{held_of};
 ghost use Rattle.spec_session.specs.Quality.{stored};
 
@@ -20,23 +21,19 @@ pub fn put_front<B: BlockSink>(
     channels: usize,
     out: &mut B,
 ) -> Result<(), Failed>
-    requires full { length ring.old.items ≡ ring.old.capacity }
-    requires valid { AllByRecursion (IsCell codec) ring.old.items }
+    requires full { IsFull codec ring.old }
     requires few { channels ≤ 6 }
     requires room { channels ≤ ring.old.capacity }
-    requires ready { IsTrue (B.ready out.old) }
-    requires sink { (B.codec out.old ≡ codec) × (B.channels out.old ≡ channels) }
+    requires sink { TakesBlocks B.BlockSink codec channels out.old }
 
-    ensures items { OnOk result (held_of ring.new.items ≡ drop channels (held_of ring.old.items) ++ replicate channels None) }
-    ensures whole { OnOk result (B.whole out.old (map stored (take channels (held_of ring.old.items))) out.new) }
-    ensures part { OnErr result (B.part out.old (map stored (take channels (held_of ring.old.items))) out.new) }
-    ensures cause { HasCause (B.faults out.old) (B.faults out.new) result }
-    ensures same { B.same out.old out.new }
-    ensures ready { B.ready out.new ≡ is_ok result }
-    ensures kept { OnOk result ((B.codec out.new ≡ codec) × (B.channels out.new ≡ channels)) }
-    ensures valid { AllByRecursion (IsCell codec) ring.new.items }
-    ensures full { length ring.new.items ≡ ring.new.capacity }
-    ensures capacity { ring.new.capacity ≡ ring.old.capacity }
+    ensures items { OnOk result (held_of ring.new.items
+        ≡ drop channels (held_of ring.old.items) ++ replicate channels None) }
+    ensures whole { OnOk result
+        (B.whole out.old (map stored (take channels (held_of ring.old.items))) out.new) }
+    ensures part { OnErr result
+        (B.part out.old (map stored (take channels (held_of ring.old.items))) out.new) }
+    ensures ring { KeepsRing codec ring.old ring.new }
+    ensures step { BlockStep B.BlockSink out.old out.new result }
 {
     fill_front(ring, codec, channels);
     lend_front(ring, channels, out)?;
@@ -53,14 +50,14 @@ fn lend_front<B: BlockSink>(
     requires within { channels ≤ length ring.now.items }
     requires few { channels ≤ 6 }
     requires ready { IsTrue (B.ready out.old) }
-    requires block { IsPresentBlock (B.codec out.old) (B.channels out.old) (take channels ring.now.items) }
+    requires block { IsPresentBlock (B.codec out.old) (B.channels out.old)
+        (take channels ring.now.items) }
 
-    ensures whole { OnOk result (B.whole out.old (frames_of (take channels ring.now.items)) out.new) }
-    ensures part { OnErr result (B.part out.old (frames_of (take channels ring.now.items)) out.new) }
-    ensures cause { HasCause (B.faults out.old) (B.faults out.new) result }
-    ensures same { B.same out.old out.new }
-    ensures ready { B.ready out.new ≡ is_ok result }
-    ensures kept { OnOk result ((B.codec out.new ≡ B.codec out.old) × (B.channels out.new ≡ B.channels out.old)) }
+    ensures whole { OnOk result
+        (B.whole out.old (frames_of (take channels ring.now.items)) out.new) }
+    ensures part { OnErr result
+        (B.part out.old (frames_of (take channels ring.now.items)) out.new) }
+    ensures step { BlockStep B.BlockSink out.old out.new result }
 {
     let (front, back) = ring.as_slices();
     if channels <= front.len() {
@@ -74,16 +71,14 @@ fn lend_front<B: BlockSink>(
 #[cold]
 #[inline(never)]
 fn put_pieces<B: BlockSink>(front: &[Cell], back: &[Cell], out: &mut B) -> Result<(), Failed>
-    requires few { length front.now + length back.now ≤ 6 }
+    requires short { length front.now + length back.now ≤ 6 }
     requires ready { IsTrue (B.ready out.old) }
-    requires block { IsPresentBlock (B.codec out.old) (B.channels out.old) (front.now ++ back.now) }
+    requires block { IsPresentBlock (B.codec out.old) (B.channels out.old)
+        (front.now ++ back.now) }
 
     ensures whole { OnOk result (B.whole out.old (frames_of (front.now ++ back.now)) out.new) }
     ensures part { OnErr result (B.part out.old (frames_of (front.now ++ back.now)) out.new) }
-    ensures cause { HasCause (B.faults out.old) (B.faults out.new) result }
-    ensures same { B.same out.old out.new }
-    ensures ready { B.ready out.new ≡ is_ok result }
-    ensures kept { OnOk result ((B.codec out.new ≡ B.codec out.old) × (B.channels out.new ≡ B.channels out.old)) }
+    ensures step { BlockStep B.BlockSink out.old out.new result }
 {
     let mut block: ArrayVec<Cell, 6> = ArrayVec::new();
     let Ok(()) = block.try_extend_from_slice(front) else {
@@ -93,4 +88,35 @@ fn put_pieces<B: BlockSink>(front: &[Cell], back: &[Cell], out: &mut B) -> Resul
         unreachable!()
     };
     out.put_block(&block)
+}
+
+/// Puts out one block of NO_DATA, as often as this.
+pub fn put_no_data<B: BlockSink>(channels: usize, count: u64, out: &mut B) -> Result<(), Failed>
+    requires few { channels ≤ 6 }
+    requires sink { TakesBlocks B.BlockSink (B.codec out.old) channels out.old }
+
+    ensures out { OnOk result (GotBlocks B.whole out.old
+        (replicate count (replicate channels no_data)) out.new) }
+    ensures part { OnErr result (GotPrefix B.whole B.part out.old
+        (replicate count (replicate channels no_data)) out.new) }
+    ensures step { BlockStep B.BlockSink out.old out.new result }
+{
+    let block = missing_block(channels);
+    for _ in 0..count {
+        out.put_block(&block)?;
+    }
+    Ok(())
+}
+
+/// NO_DATA in each channel.
+fn missing_block(channels: usize) -> ArrayVec<Cell, 6>
+    requires few { channels ≤ 6 }
+    ensures frames { frames_of result.items ≡ replicate channels no_data }
+    ensures block { (codec : Codec) → IsPresentBlock codec channels result.items }
+{
+    let mut block: ArrayVec<Cell, 6> = ArrayVec::new();
+    for _ in 0..channels {
+        block.push(Cell::no_data());
+    }
+    block
 }

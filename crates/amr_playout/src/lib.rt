@@ -2,30 +2,19 @@
 //! frame the best of its copies in time, from memory that is reserved at the start.
 #![tactic(auto)]
 
-mod accept;
-mod advance;
 mod answers;
 mod block;
-mod frames;
-mod judge;
-mod missing;
-mod offer;
-mod place;
+mod merge;
 mod plan;
-mod receive;
 mod receiver;
-mod rest;
 mod ring;
 mod session;
 mod shares;
-mod slide;
-mod take;
+mod step;
+mod verdict;
+mod window;
 
-pub use answers::{Kept, Offered, Taken};
-pub use frames::Frames;
+pub use answers::{Kept, Offered, Refusal, Taken};
 pub use plan::{Plan, PlanFault};
 pub use receiver::Receiver;
-pub use session::{Begun, Head};
-
-#[cfg(test)]
-mod tests;
+pub use session::Begun;

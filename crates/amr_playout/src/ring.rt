@@ -3,6 +3,7 @@ ghost use Rattle.std.specs.List.{AllByRecursion};
 ghost use Rattle.std.specs.Prelude.{◌≡◌, ◌+◌, ◌<◌, ◌≤◌, ◌++◌, IfOk, IsTrue, None, drop, is_some, length, map, replicate, slice_set, take};
 ghost use Rattle.amr_frame.specs.Blocks.{IsPresentBlock, frames_of};
 ghost use Rattle.amr_frame.specs.Cells.{IsCell, frame_of, held};
+ghost use Rattle.amr_playout.specs.Ring.{ArePresent, IsFull, KeepsRing};
 ghost use Rattle.amr_playout.specs.Window.{held_of, item};
 ghost use Rattle.spec_session.specs.Quality.{better, stored};
 
@@ -45,11 +46,10 @@ fn fill_at(ring: &mut HeapCircularBuffer<Cell>, codec: Codec, index: usize)
     requires valid { AllByRecursion (IsCell codec) ring.old.items }
 
     ensures frames { frames_of ring.new.items ≡ frames_of ring.old.items }
-    ensures present { AllByRecursion (λ (cell : Cell). IsTrue cell.present) (take index ring.old.items) → AllByRecursion (λ (cell : Cell). IsTrue cell.present) (take (index + 1) ring.new.items) }
+    ensures present { ArePresent (take index ring.old.items)
+        → ArePresent (take (index + 1) ring.new.items) }
     ensures rest { drop (index + 1) ring.new.items ≡ drop (index + 1) ring.old.items }
-    ensures valid { AllByRecursion (IsCell codec) ring.new.items }
-    ensures full { length ring.new.items ≡ length ring.old.items }
-    ensures capacity { ring.new.capacity ≡ ring.old.capacity }
+    ensures ring { KeepsRing codec ring.old ring.new }
 {
     if let Some(cell) = ring.get_mut(index) {
         fill(cell, codec);
@@ -61,12 +61,11 @@ pub fn fill_front(ring: &mut HeapCircularBuffer<Cell>, codec: Codec, count: usiz
     requires within { count ≤ length ring.old.items }
     requires valid { AllByRecursion (IsCell codec) ring.old.items }
 
-    ensures frames { frames_of (take count ring.new.items) ≡ map stored (take count (held_of ring.old.items)) }
+    ensures frames { frames_of (take count ring.new.items)
+        ≡ map stored (take count (held_of ring.old.items)) }
     ensures block { IsPresentBlock codec count (take count ring.new.items) }
     ensures rest { drop count ring.new.items ≡ drop count ring.old.items }
-    ensures valid { AllByRecursion (IsCell codec) ring.new.items }
-    ensures full { length ring.new.items ≡ length ring.old.items }
-    ensures capacity { ring.new.capacity ≡ ring.old.capacity }
+    ensures ring { KeepsRing codec ring.old ring.new }
 {
     for index in 0..count {
         fill_at(ring, codec, index);
@@ -75,14 +74,12 @@ pub fn fill_front(ring: &mut HeapCircularBuffer<Cell>, codec: Codec, count: usiz
 
 /// Pushes absent cells, which push out as many at the front.
 pub fn push_absent(ring: &mut HeapCircularBuffer<Cell>, codec: Codec, count: usize)
-    requires full { length ring.old.items ≡ ring.old.capacity }
-    requires valid { AllByRecursion (IsCell codec) ring.old.items }
+    requires full { IsFull codec ring.old }
     requires room { count ≤ ring.old.capacity }
 
-    ensures items { held_of ring.new.items ≡ drop count (held_of ring.old.items) ++ replicate count None }
-    ensures valid { AllByRecursion (IsCell codec) ring.new.items }
-    ensures full { length ring.new.items ≡ ring.new.capacity }
-    ensures capacity { ring.new.capacity ≡ ring.old.capacity }
+    ensures items { held_of ring.new.items
+        ≡ drop count (held_of ring.old.items) ++ replicate count None }
+    ensures ring { KeepsRing codec ring.old ring.new }
 {
     let none = Cell::absent();
     for at in 0..count {
@@ -91,16 +88,20 @@ pub fn push_absent(ring: &mut HeapCircularBuffer<Cell>, codec: Codec, count: usi
 }
 
 /// Merges a frame into a cell, and tells whether the cell had one.
-pub fn merge(ring: &mut HeapCircularBuffer<Cell>, codec: Codec, index: usize, frame: &Cell) -> bool
+pub fn merge_at(
+    ring: &mut HeapCircularBuffer<Cell>,
+    codec: Codec,
+    index: usize,
+    frame: &Cell,
+) -> bool
     requires within { index < length ring.old.items }
     requires valid { AllByRecursion (IsCell codec) ring.old.items }
     requires frame { IsCell codec frame.now }
 
-    ensures items { held_of ring.new.items ≡ slice_set (held_of ring.old.items) index (better codec (item (held_of ring.old.items) index) (held frame.now)) }
+    ensures items { held_of ring.new.items ≡ slice_set (held_of ring.old.items) index
+        (better codec (item (held_of ring.old.items) index) (held frame.now)) }
     ensures had { result ≡ is_some (item (held_of ring.old.items) index) }
-    ensures valid { AllByRecursion (IsCell codec) ring.new.items }
-    ensures full { length ring.new.items ≡ length ring.old.items }
-    ensures capacity { ring.new.capacity ≡ ring.old.capacity }
+    ensures ring { KeepsRing codec ring.old ring.new }
 {
     if let Some(cell) = ring.get_mut(index) {
         let had = cell.present;

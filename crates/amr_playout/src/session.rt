@@ -1,5 +1,3 @@
-// A session so far, and what of a packet it goes by.
-
 /// A session that has begun: its source, the timestamp of its first packet, the last place so far, and the next
 /// place to go out. The first packet's place is 2^24.
 #[derive(Clone, Copy, Debug, PartialEq, Eq)]
@@ -8,12 +6,4 @@ pub struct Begun {
     pub origin: u32,
     pub horizon: u64,
     pub next: u64,
-}
-
-/// What a session goes by, beside the payload (RFC 3550, 5.1).
-#[derive(Clone, Copy, Debug, PartialEq, Eq)]
-pub struct Head {
-    pub ssrc: u32,
-    pub sequence: u16,
-    pub timestamp: u32,
 }

@@ -1,13 +1,12 @@
 use Rattle.std.proofs.Common.{◌≡◌, ap, sym, ◌∙◌, subst}
-use Rattle.amr_gateway.proofs.Bounds.{room}
-use Rattle.amr_gateway.proofs.Carried.{gained_at, gained_part_at}
+use Rattle.amr_gateway.proofs.Carried.{told_at}
 use Rattle.amr_gateway.proofs.Plans.{channels_within, takes_at}
 use Rattle.amr_gateway.proofs.Texts.{gained, gained_part}
+use Rattle.amr_gateway.specs.Hearing.{Gained, GainedPart}
 use Rattle.amr_playout.specs.Plans.{rules_in}
-use Rattle.amr_playout.specs.Receiver.{sent}
 use Rattle.amr_playout.specs.declared.plan.Plan.{Plan}
 use Rattle.spec_session.specs.Counts.{block_count}
-use Rattle.spec_session.specs.Release.{released}
+use Rattle.spec_session.specs.Release.{gone_out, released}
 use Rattle.amr_gateway.proofs.hear.end_session.Goals as goal
 
 pub resume-writer-requires-clause-some : goal.resume-writer-requires-clause-some
@@ -16,24 +15,20 @@ resume-writer-requires-clause-some g c = (channels_within c.args.job.now.plan c.
 pub resume-writer-requires-clause-most : goal.resume-writer-requires-clause-most
 resume-writer-requires-clause-most g c = (channels_within c.args.job.now.plan c.requires.served.plan).1
 
-pub finish-requires-clause-unspent : goal.finish-requires-clause-unspent
-finish-requires-clause-unspent g c = c.requires.ready.0
-
-pub finish-requires-clause-ready : goal.finish-requires-clause-ready
-finish-requires-clause-ready g c = takes_at c.args.job.now.plan c.resume-writer.result.stage c.resume-writer.result.channels c.requires.served.plan c.resume-writer.ensures.stage c.resume-writer.ensures.format.1
-
-pub finish-requires-clause-below : goal.finish-requires-clause-below
-finish-requires-clause-below g c =
-    let ready = c.requires.ready in
-    let r = room ready.1 c.args.receiver.now ready.2 ready.3 in
-    (r.session, r.blocks)
+pub finish-requires-clause-sink : goal.finish-requires-clause-sink
+finish-requires-clause-sink g c = record {
+  ready = takes_at c.args.job.now.plan c.resume-writer.result.stage c.resume-writer.result.channels c.requires.served.plan c.resume-writer.ensures.stage c.resume-writer.ensures.format.1;
+  codec = c.resume-writer.ensures.format.0 ∙ sym (ap (λ (p : Plan). p.profile.codec) c.requires.plan);
+  channels = c.resume-writer.ensures.format.1 ∙ sym (ap (λ (p : Plan). p.profile.channels) c.requires.plan);
+}
 
 pub returns-in-Ok-clause-ended : goal.returns-in-Ok-clause-ended
 returns-in-Ok-clause-ended g c =
-    let new = c.in-Ok.ensures in
+    let new = c.in-Ok.ensures.finished in
     record {
       out = λ h stands.
-          gained_at g.O.Sink.got (λ (p : Plan). sent p h) (λ (p : Plan). released (rules_in p) h) c.args.receiver.now.plan c.args.job.now.plan _ _ _ _ c.requires.plan c.resume-writer.ensures.now (c.output-1.given.1 (sym (c.finish.ensures.same.reference ∙ c.resume-writer.ensures.same_reference)))
+          told_at Gained g.O.Sink.got (λ (p : Plan). gone_out (rules_in p) h) (λ (p : Plan). released (rules_in p) h) c.args.receiver.now.plan c.args.job.now.plan _ _ _ _
+          c.requires.plan c.resume-writer.ensures.now (c.output-1.given.1 (sym (c.finish.ensures.step.same.reference ∙ c.resume-writer.ensures.same_reference)))
           (gained g.O.Sink.got g.O.Sink.beside g.O.Sink.same g.met.O.Sink.reflexive g.met.O.Sink.transitive c.resume-writer.result c.finish.new.out _ _ (new.out h stands));
       late = ap (λ k. k.late) new.counts;
       copies = ap (λ k. k.copies) new.counts;
@@ -44,6 +39,7 @@ returns-in-Ok-clause-ended g c =
 pub returns-in-Err-clause-part : goal.returns-in-Err-clause-part
 returns-in-Err-clause-part g c = record {
   out = λ h stands.
-      gained_part_at g.O.Sink.got (λ (p : Plan). sent p h) (λ (p : Plan). released (rules_in p) h) c.args.receiver.now.plan c.args.job.now.plan _ _ _ _ c.requires.plan c.resume-writer.ensures.now (c.output-1.given.1 (sym (c.finish.ensures.same.reference ∙ c.resume-writer.ensures.same_reference)))
-      (gained_part g.O.Sink.got g.O.Sink.beside g.O.Sink.same g.met.O.Sink.reflexive g.met.O.Sink.transitive c.resume-writer.result c.finish.new.out _ _ (c.in-Err.ensures.part h stands));
+      told_at GainedPart g.O.Sink.got (λ (p : Plan). gone_out (rules_in p) h) (λ (p : Plan). released (rules_in p) h) c.args.receiver.now.plan c.args.job.now.plan _ _ _ _
+      c.requires.plan c.resume-writer.ensures.now (c.output-1.given.1 (sym (c.finish.ensures.step.same.reference ∙ c.resume-writer.ensures.same_reference)))
+      (gained_part g.O.Sink.got g.O.Sink.beside g.O.Sink.same g.met.O.Sink.reflexive g.met.O.Sink.transitive c.resume-writer.result c.finish.new.out _ _ (c.in-Err.ensures.part.part h stands));
 }

@@ -1,14 +1,15 @@
-use Rattle.std.proofs.Common.{◌≡◌, ◌+◌, [], ◌∷◌, ◌++◌, length, sym, ◌∙◌, subst, arith}
-use Rattle.amr_gateway.proofs.Bounds.{bounded_more, room}
-use Rattle.amr_gateway.proofs.Carried.{far_ahead, fault_at, gained_at, gained_part_at, off_grid, other_source, refused}
+use Rattle.std.proofs.Common.{◌≡◌, ◌+◌, [], ◌∷◌, ◌++◌, length, sym, ap, ◌∙◌, subst, arith}
+use Rattle.amr_gateway.proofs.Bounds.{bounded_more, takes_packets}
+use Rattle.amr_gateway.proofs.Carried.{fault_at, refusal_at, refused, told_at}
 use Rattle.amr_gateway.proofs.Offered.{accepts}
 use Rattle.amr_gateway.proofs.Plans.{channels_within, takes_at}
 use Rattle.amr_gateway.proofs.Texts.{gained, gained_part}
+use Rattle.amr_gateway.specs.Hearing.{Gained, GainedPart}
 use Rattle.amr_playout.specs.Heard.{heard}
 use Rattle.amr_io.specs.Fault.{Rose}
 use Rattle.amr_playout.specs.Plans.{IsPlan, rules_in}
-use Rattle.amr_playout.specs.Receiver.{sent}
 use Rattle.amr_playout.specs.declared.plan.Plan.{Plan}
+use Rattle.spec_session.specs.Release.{gone_out}
 use Rattle.spec_session.specs.Session.{accepted}
 use Rattle.amr_gateway.proofs.hear.offer.Goals as goal
 
@@ -18,75 +19,62 @@ resume-writer-requires-clause-some g c = (channels_within c.args.job.now.plan c.
 pub resume-writer-requires-clause-most : goal.resume-writer-requires-clause-most
 resume-writer-requires-clause-most g c = (channels_within c.args.job.now.plan c.requires.served.plan).1
 
-pub offer-requires-clause-unspent : goal.offer-requires-clause-unspent
-offer-requires-clause-unspent g c = c.requires.ready.unspent
+pub offer-requires-clause-sink : goal.offer-requires-clause-sink
+offer-requires-clause-sink g c = record {
+  ready = takes_at c.args.job.now.plan c.resume-writer.result.stage c.resume-writer.result.channels c.requires.served.plan c.resume-writer.ensures.stage c.resume-writer.ensures.format.1;
+  codec = c.resume-writer.ensures.format.0 ∙ sym (ap (λ (p : Plan). p.profile.codec) c.requires.plan);
+  channels = c.resume-writer.ensures.format.1 ∙ sym (ap (λ (p : Plan). p.profile.channels) c.requires.plan);
+}
 
 pub offer-requires-clause-ready : goal.offer-requires-clause-ready
-offer-requires-clause-ready g c = takes_at c.args.job.now.plan c.resume-writer.result.stage c.resume-writer.result.channels c.requires.served.plan c.resume-writer.ensures.stage c.resume-writer.ensures.format.1
-
-pub offer-requires-clause-below : goal.offer-requires-clause-below
-offer-requires-clause-below g c =
+offer-requires-clause-ready g c =
     let ready = c.requires.ready in
     let few = ready.few in
-    let r = room ready.records c.args.receiver.now (omega (arith, few)) ready.bounded in
-    (r.session, r.late, r.copies, r.blocks)
+    takes_packets ready.records c.args.receiver.now ready.unspent (omega (arith, few)) ready.bounded
 
 pub returns-in-Ok-clause-offered : goal.returns-in-Ok-clause-offered
 returns-in-Ok-clause-offered g c =
     let x = heard c.args.rtp.now c.args.payload.now in
     let v = c.args.receiver.now in
-    let new = c.in-Ok.ensures in
+    let new = c.in-Ok.ensures.taken in
     record {
       of_session = tt;
       stands = new.stands;
       out = λ h stands.
-          gained_at g.O.Sink.got (λ (p : Plan). sent p h) (λ (p : Plan). sent p (h ++ x ∷ [])) v.plan c.args.job.now.plan _ _ _ _ c.requires.plan c.resume-writer.ensures.now (c.output-1.given.1 (sym (c.offer.ensures.same.reference ∙ c.resume-writer.ensures.same_reference)))
+          told_at Gained g.O.Sink.got (λ (p : Plan). gone_out (rules_in p) h) (λ (p : Plan). gone_out (rules_in p) (h ++ x ∷ [])) v.plan c.args.job.now.plan _ _ _ _
+          c.requires.plan c.resume-writer.ensures.now (c.output-1.given.1 (sym (c.offer.ensures.same.reference ∙ c.resume-writer.ensures.same_reference)))
           (gained g.O.Sink.got g.O.Sink.beside g.O.Sink.same g.met.O.Sink.reflexive g.met.O.Sink.transitive c.resume-writer.result c.offer.new.out _ _ (new.out h stands));
       accepts = λ h stands.
           subst (λ (p : Plan). length (accepted (rules_in p) (h ++ x ∷ [])) ≡ length (accepted (rules_in p) h) + 1) c.requires.plan
-          (accepts (rules_in v.plan) h x (new.taken h stands).0 (new.taken h stands).1);
+          (accepts (rules_in v.plan) h x (new.verdict h stands).0 (new.verdict h stands).1);
       on = record {
         unspent = new.unspent;
         bounded = λ n b.
-            bounded_more n v c.offer.new.self c.in-Ok.field-0.late c.in-Ok.field-0.copies c.in-Ok.field-0.released (subst IsPlan (sym c.requires.plan) c.requires.served.plan) new.grows new.few new.counts b;
+            bounded_more n v c.offer.new.self c.in-Ok.field-0.late c.in-Ok.field-0.copies c.in-Ok.field-0.released
+            (subst IsPlan (sym c.requires.plan) c.requires.served.plan) new.grows new.few new.counts b;
       };
     }
 
 pub returns-in-Err-BlockFault-clause-part : goal.returns-in-Err-BlockFault-clause-part
-returns-in-Err-BlockFault-clause-part g c = record {
-  out = λ h stands.
-      gained_part_at g.O.Sink.got (λ (p : Plan). sent p h) (λ (p : Plan). sent p (h ++ heard c.args.rtp.now c.args.payload.now ∷ [])) c.args.receiver.now.plan c.args.job.now.plan _ _ _ _ c.requires.plan c.resume-writer.ensures.now (c.output-1.given.1 (sym (c.offer.ensures.same.reference ∙ c.resume-writer.ensures.same_reference)))
-      (gained_part g.O.Sink.got g.O.Sink.beside g.O.Sink.same g.met.O.Sink.reflexive g.met.O.Sink.transitive c.resume-writer.result c.offer.new.out _ _ (fault_at c.in-Err-BlockFault.field-0 _ c.in-Err-BlockFault.field-0-is c.in-Err-BlockFault.ensures.part h stands));
-}
+returns-in-Err-BlockFault-clause-part g c =
+    let failed = fault_at c.in-Err-BlockFault.field-0 _ c.in-Err-BlockFault.field-0-is c.in-Err-BlockFault.ensures.failed in
+    record {
+      out = λ h stands.
+          told_at GainedPart g.O.Sink.got (λ (p : Plan). gone_out (rules_in p) h)
+          (λ (p : Plan). gone_out (rules_in p) (h ++ heard c.args.rtp.now c.args.payload.now ∷ [])) c.args.receiver.now.plan c.args.job.now.plan _ _ _ _
+          c.requires.plan c.resume-writer.ensures.now (c.output-1.given.1 (sym (c.offer.ensures.same.reference ∙ c.resume-writer.ensures.same_reference)))
+          (gained_part g.O.Sink.got g.O.Sink.beside g.O.Sink.same g.met.O.Sink.reflexive g.met.O.Sink.transitive c.resume-writer.result c.offer.new.out _ _ (failed.part h stands));
+    }
 
 pub returns-in-Err-BlockFault-clause-cause : goal.returns-in-Err-BlockFault-clause-cause
 returns-in-Err-BlockFault-clause-cause g c =
+    let failed = fault_at c.in-Err-BlockFault.field-0 _ c.in-Err-BlockFault.field-0-is c.in-Err-BlockFault.ensures.failed in
     subst (λ t. Rose (g.O.Sink.faults c.args.output.now) (g.O.Sink.faults t)) (sym (c.output-1.given.1 (sym (c.offer.ensures.same.reference ∙ c.resume-writer.ensures.same_reference))))
-    (subst (λ t. Rose (g.O.Sink.faults t) (g.O.Sink.faults c.offer.new.out.sink.now)) c.resume-writer.ensures.now (fault_at c.in-Err-BlockFault.field-0 _ c.in-Err-BlockFault.field-0-is c.in-Err-BlockFault.ensures.cause))
+    (subst (λ t. Rose (g.O.Sink.faults t) (g.O.Sink.faults c.offer.new.out.sink.now)) c.resume-writer.ensures.now failed.step.cause)
 
-pub returns-in-Err-OtherSource-clause-offered : goal.returns-in-Err-OtherSource-clause-offered
-returns-in-Err-OtherSource-clause-offered g c =
-    let e = c.in-Err-OtherSource.field-0 in
-    let answered = c.in-Err-OtherSource.ensures in
+pub returns-in-Err-Refused-clause-offered : goal.returns-in-Err-Refused-clause-offered
+returns-in-Err-Refused-clause-offered g c =
     refused g.O.Sink.got c.args.job.now c.args.receiver.now c.offer.new.self (heard c.args.rtp.now c.args.payload.now) c.args.output.now _
-    c.resume-writer.result c.offer.new.out e (other_source e _ _ c.in-Err-OtherSource.field-0-is) c.requires.plan c.requires.ready.unspent
+    c.resume-writer.result c.offer.new.out _ c.requires.plan c.requires.ready.unspent
     c.resume-writer.ensures.now (c.output-1.given.1 (sym (c.offer.ensures.same.reference ∙ c.resume-writer.ensures.same_reference)))
-    answered.refused answered.verdict answered.heard answered.quiet
-
-pub returns-in-Err-OffGrid-clause-offered : goal.returns-in-Err-OffGrid-clause-offered
-returns-in-Err-OffGrid-clause-offered g c =
-    let e = c.in-Err-OffGrid.field-0 in
-    let answered = c.in-Err-OffGrid.ensures in
-    refused g.O.Sink.got c.args.job.now c.args.receiver.now c.offer.new.self (heard c.args.rtp.now c.args.payload.now) c.args.output.now _
-    c.resume-writer.result c.offer.new.out e (off_grid e _ c.in-Err-OffGrid.field-0-is) c.requires.plan c.requires.ready.unspent
-    c.resume-writer.ensures.now (c.output-1.given.1 (sym (c.offer.ensures.same.reference ∙ c.resume-writer.ensures.same_reference)))
-    answered.refused answered.verdict answered.heard answered.quiet
-
-pub returns-in-Err-FarAhead-clause-offered : goal.returns-in-Err-FarAhead-clause-offered
-returns-in-Err-FarAhead-clause-offered g c =
-    let e = c.in-Err-FarAhead.field-0 in
-    let answered = c.in-Err-FarAhead.ensures in
-    refused g.O.Sink.got c.args.job.now c.args.receiver.now c.offer.new.self (heard c.args.rtp.now c.args.payload.now) c.args.output.now _
-    c.resume-writer.result c.offer.new.out e (far_ahead e _ _ c.in-Err-FarAhead.field-0-is) c.requires.plan c.requires.ready.unspent
-    c.resume-writer.ensures.now (c.output-1.given.1 (sym (c.offer.ensures.same.reference ∙ c.resume-writer.ensures.same_reference)))
-    answered.refused answered.verdict answered.heard answered.quiet
+    (refusal_at c.in-Err-Refused.field-0 _ _ c.in-Err-Refused.field-0-is c.in-Err-Refused.ensures.refused)

@@ -33,11 +33,17 @@ returns-clause-items c =
     ∙ ap (λ os. drop n (held_of xs) ++ os) (held-replicate n d c.absent-none.ensures.absent)
     ∙ ap (λ m. drop m (held_of xs) ++ replicate {A = Option Frame} m None) end
 
-pub returns-clause-valid : goal.returns-clause-valid
-returns-clause-valid c =
+pub returns-clause-ring : goal.returns-clause-ring
+returns-clause-ring c =
     let xs : List Cell = c.args.ring.now.items in
     let n : ℕ = c.loop-at.at in
     let d : Cell = c.absent-none.result in
-    subst (AllByRecursion (IsCell c.args.codec)) (sym c.loop-at.invariant.items)
-    (all-append (IsCell c.args.codec) (drop n xs) (replicate n d) (all-drop (IsCell c.args.codec) n xs c.requires.valid)
-    (all-replicate (IsCell c.args.codec) n d (absent_is c.args.codec d c.absent-none.ensures.present c.absent-none.ensures.like_no_data)))
+    let capacity : c.loop-at.ring.capacity ≡ c.args.ring.now.capacity = c.loop-at.invariant.capacity in
+    record {
+      valid =
+          subst (AllByRecursion (IsCell c.args.codec)) (sym c.loop-at.invariant.items)
+          (all-append (IsCell c.args.codec) (drop n xs) (replicate n d) (all-drop (IsCell c.args.codec) n xs c.requires.full.valid)
+          (all-replicate (IsCell c.args.codec) n d (absent_is c.args.codec d c.absent-none.ensures.present c.absent-none.ensures.like_no_data)));
+      size = c.loop-at.invariant.full ∙ capacity ∙ sym c.requires.full.full;
+      capacity = capacity;
+    }

@@ -1,6 +1,6 @@
 use Rattle.amr_gateway.proofs.Results.{on_err}
 use Rattle.amr_gateway.proofs.Tallying.{tallied_more}
-use Rattle.amr_gateway.proofs.Texts.{early_part, early_puts}
+use Rattle.amr_gateway.proofs.Texts.{puts_by, puts_part_by}
 use Rattle.amr_gateway.specs.Jobs.{recording_of}
 use Rattle.amr_gateway.proofs.recorder.RecorderRecordHandler.handle.Goals as goal
 
@@ -10,7 +10,7 @@ hear-requires-clause-ready g c =
     record { unspent = ready.unspent; records = c.args.self.now.tally.packets; few = c.requires.few; bounded = ready.bounded }
 
 pub returns-in_err-heard-clause-failed : goal.returns-in_err-heard-clause-failed
-returns-in_err-heard-clause-failed g c = on_err c.from_residual.result _ (λ hs s. early_part c.args.self.now.job _ _ hs c.args.packet.now (c.in_err-heard.ensures.part.out hs s.heard))
+returns-in_err-heard-clause-failed g c = on_err c.from_residual.result _ (λ hs s. puts_part_by c.args.self.now.job _ _ _ _ (c.in_err-heard.ensures.part.out hs s.heard))
 
 pub returns-clause-done : goal.returns-clause-done
 returns-clause-done g c = λ hs s.
@@ -20,5 +20,5 @@ returns-clause-done g c = λ hs s.
         heard = heard.stands hs s.heard;
         tallied = tallied_more (recording_of job) c.args.self.now.tally c.count.new.counts hs c.args.packet.now c.in_ok-heard.heard c.count.ensures.counted heard.told (heard.accepts hs s.heard) s.tallied;
       },
-      early_puts job _ _ hs c.args.packet.now (heard.out hs s.heard),
+      puts_by job _ _ _ _ (heard.out hs s.heard),
     )

@@ -1,45 +1,67 @@
-use Rattle.std.proofs.Common.{◌≡◌, List, [], ◌∷◌, ◌++◌, subst, OnOk, IfErr}
-use Rattle.amr_playout.specs.Gains.{Gains, GainsPart}
+use Rattle.std.proofs.Common.{◌+◌, arith, sym, subst}
+use Rattle.amr_playout.proofs.Offering.{accepted_by, fails, few_gone, refuses, spent_by, takes}
+use Rattle.amr_playout.specs.declared.answers.Kept.{Kept}
 use Rattle.amr_playout.specs.Heard.{heard}
-use Rattle.amr_playout.specs.Plans.{rules_in}
-use Rattle.amr_playout.specs.Receiver.{StandsFor, sent}
-use Rattle.amr_playout.specs.Refusals.{IsRefusal, OnFault, OnRefusal}
-use Rattle.amr_playout.specs.Standing.{packet}
-use Rattle.amr_toc.specs.Viewed.{viewed}
-use Rattle.spec_session.specs.Packets.{Packet}
-use Rattle.spec_session.specs.Session.{Accept, Accepted, accepted, verdict}
+use Rattle.amr_playout.specs.Offers.{Fails, Refuses, Takes}
+use Rattle.amr_playout.specs.Receiver.{TakesPackets, View}
 use Rattle.amr_playout.proofs.receiver.Receiver.offer.Goals as goal
-use Rattle.amr_playout.proofs.receiver.Receiver.offer.Goals.{After-take}
-use Rattle.amr_playout.proofs.receiver.Receiver.offer.Given.{Over}
 
--- the head that is made has the fields of the packet
-same : (g : Over) (c : After-take g) → packet (record { ssrc = c.ssrc.result; sequence = c.sequence.result; timestamp = c.timestamp.result }) (viewed c.args.payload.now) ≡ heard c.args.rtp.now c.args.payload.now
-same g c = λ i. record { ssrc = c.ssrc.ensures i; sequence = c.sequence.ensures i; timestamp = c.timestamp.ensures i; value = viewed c.args.payload.now }
+pub returns-in-Err-clause-refused : goal.returns-in-Err-clause-refused
+returns-in-Err-clause-refused g c =
+    subst (λ (o : View). Refuses o o (heard c.args.rtp.now c.args.payload.now) c.args.out.now c.args.out.now c.in-Err.why) c.self.view_is
+    (refuses g.B.BlockSink c.self.inside (heard c.args.rtp.now c.args.payload.now) c.args.out.now c.args.out.now c.in-Err.why c.in-Err.ensures.declined)
 
-pub returns-clause-stands : goal.returns-clause-stands
-returns-clause-stands g c =
-    subst (λ (x : Packet). OnOk c.take.result ((h : List Packet) → StandsFor c.args.self.now h → StandsFor c.take.new.self (h ++ x ∷ []))) (same g c) c.take.ensures.stands
+pub returns-in-Err-clause-same : goal.returns-in-Err-clause-same
+returns-in-Err-clause-same g c = g.met.B.BlockSink.reflexive c.args.out.now
 
-pub returns-clause-out : goal.returns-clause-out
-returns-clause-out g c =
-    subst (λ (x : Packet). OnOk c.take.result ((h : List Packet) → StandsFor c.args.self.now h → Gains g.B.BlockSink.whole c.args.out.now c.take.new.out (sent c.args.self.now.plan h) (sent c.args.self.now.plan (h ++ x ∷ [])))) (same g c) c.take.ensures.out
+pub overflow_add-self-in-Ok-accept-2 : goal.overflow_add-self-in-Ok-accept-2
+overflow_add-self-in-Ok-accept-2 g c =
+    let a = c.in-Ok-accept.ensures.accepted in
+    let ready = subst TakesPackets (sym c.self.view_is) c.requires.ready in
+    let few = few_gone c.self.inside.session c.in-Ok-accept.step.session.horizon c.in-Ok-accept.step.taken.released a.rise a.none in
+    let small = a.inside.1 in
+    let blocks = ready.blocks in
+    record { fits = omega (arith, few, small, blocks) }
 
-pub returns-clause-verdict : goal.returns-clause-verdict
-returns-clause-verdict g c =
-    subst (λ (x : Packet). IfErr c.take.result (λ e. OnRefusal e ((h : List Packet) → StandsFor c.args.self.now h → IsRefusal (verdict (rules_in c.args.self.now.plan) (accepted (rules_in c.args.self.now.plan) h) x) e))) (same g c) c.take.ensures.verdict
+pub invariant_of-self : goal.invariant_of-self
+invariant_of-self g c =
+    let a = c.in-Ok-accept.ensures.accepted in
+    let ready = subst TakesPackets (sym c.self.view_is) c.requires.ready in
+    let few = few_gone c.self.inside.session c.in-Ok-accept.step.session.horizon c.in-Ok-accept.step.taken.released a.rise a.none in
+    let small = a.inside.1 in
+    let blocks = ready.blocks in
+    record {
+      ring = c.accept.ensures.ring;
+      inside = a.inside;
+      few = λ e. omega (arith, few, small, blocks);
+    }
 
-pub returns-clause-heard : goal.returns-clause-heard
-returns-clause-heard g c =
-    subst (λ (x : Packet). IfErr c.take.result (λ e. OnRefusal e ((h : List Packet) → StandsFor c.args.self.now h → StandsFor c.take.new.self (h ++ x ∷ [])))) (same g c) c.take.ensures.heard
+pub invariant_of-self-in-Err-accept : goal.invariant_of-self-in-Err-accept
+invariant_of-self-in-Err-accept g c = record {
+  ring = c.accept.ensures.ring;
+  inside = c.self.invariant.inside;
+  few = λ e. absurd cc;
+}
 
-pub returns-clause-quiet : goal.returns-clause-quiet
-returns-clause-quiet g c =
-    subst (λ (x : Packet). IfErr c.take.result (λ e. OnRefusal e ((h : List Packet) → StandsFor c.args.self.now h → sent c.args.self.now.plan (h ++ x ∷ []) ≡ sent c.args.self.now.plan h))) (same g c) c.take.ensures.quiet
+pub returns-in-Ok-accept-clause-taken : goal.returns-in-Ok-accept-clause-taken
+returns-in-Ok-accept-clause-taken g c =
+    let ready = subst TakesPackets (sym c.self.view_is) c.requires.ready in
+    let x = heard c.args.rtp.now c.args.payload.now in
+    let old = c.self.inside.counts in
+    let step = c.in-Ok-accept.step in
+    let counts : Kept = record { late = old.late + c.from.result; copies = old.copies + c.from-in-Ok-accept.result; blocks = old.blocks + step.taken.released } in
+    subst (λ (o : View). Takes g.B.BlockSink o (accepted_by c.self.inside c.accept.new.ring step counts) x c.args.out.now c.accept.new.out step.taken) c.self.view_is
+    (takes g.B.BlockSink c.self.inside x c.args.out.now c.accept.new.out c.in-Ok.place c.accept.new.ring step counts
+    c.in-Ok.ensures.seated c.in-Ok.ensures.seat c.in-Ok.ensures.reach c.in-Ok-accept.ensures.accepted c.in-Ok-accept.ensures.step ready.unspent
+    (λ i. record {
+      late = old.late + c.from.ensures i;
+      copies = old.copies + c.from-in-Ok-accept.ensures i;
+      blocks = old.blocks + step.taken.released;
+    }))
 
-pub returns-clause-part : goal.returns-clause-part
-returns-clause-part g c =
-    subst (λ (x : Packet). IfErr c.take.result (λ e. OnFault e ((h : List Packet) → StandsFor c.args.self.now h → GainsPart g.B.BlockSink.whole g.B.BlockSink.part c.args.out.now c.take.new.out (sent c.args.self.now.plan h) (sent c.args.self.now.plan (h ++ x ∷ []))))) (same g c) c.take.ensures.part
-
-pub returns-clause-taken : goal.returns-clause-taken
-returns-clause-taken g c =
-    subst (λ (x : Packet). OnOk c.take.result ((h : List Packet) → StandsFor c.args.self.now h → (a : Accepted) × (verdict (rules_in c.args.self.now.plan) (accepted (rules_in c.args.self.now.plan) h) x ≡ Accept a))) (same g c) c.take.ensures.taken
+pub returns-in-Err-accept-clause-failed : goal.returns-in-Err-accept-clause-failed
+returns-in-Err-accept-clause-failed g c =
+    let x = heard c.args.rtp.now c.args.payload.now in
+    subst (λ (o : View). Fails g.B.BlockSink o (spent_by c.self.inside c.accept.new.ring c.self.inside.counts) x c.args.out.now c.accept.new.out) c.self.view_is
+    (fails g.B.BlockSink c.self.inside x c.args.out.now c.accept.new.out c.in-Ok.place c.accept.new.ring _
+    c.in-Ok.ensures.seated c.in-Err-accept.ensures.part c.in-Err-accept.ensures.step)

@@ -1,0 +1,91 @@
+-- What an offer of a packet does, by its answer, and the end of a session. This project's own.
+use Rattle.std.specs.Prelude.{◌≡◌, ℕ, ◌+◌, ◌≤◌, ◌++◌, List, [], ◌∷◌, length, true, false, Ok, Err}
+use Rattle.amr_frame.specs.declared.block_sink.BlockSink as blocks
+use Rattle.amr_frame.specs.Frames.{Frame}
+use Rattle.amr_frame.specs.Steps.{BlockStep}
+use Rattle.amr_playout.specs.declared.answers.Offered.{Offered}
+use Rattle.amr_playout.specs.declared.answers.Offered.TheVariants.{BlockFault}
+use Rattle.amr_playout.specs.declared.answers.Refusal.{Refusal}
+use Rattle.amr_playout.specs.declared.answers.Taken.{Taken}
+use Rattle.amr_playout.specs.Gains.{Gains, GainsPart}
+use Rattle.amr_playout.specs.Plans.{rules_in}
+use Rattle.amr_playout.specs.Receiver.{Grows, StandsFor, View}
+use Rattle.amr_playout.specs.Refusals.{IsRefusal}
+use Rattle.spec_session.specs.Counts.{block_count}
+use Rattle.spec_session.specs.Packets.{Packet}
+use Rattle.spec_session.specs.Release.{gone_out, released}
+use Rattle.spec_session.specs.Session.{Accept, Accepted, Verdict, accepted, verdict}
+
+-- what the session's rules say of a packet behind these
+abbrev pub verdict_on : View → List Packet → Packet → Verdict
+verdict_on v h x = verdict (rules_in v.plan) (accepted (rules_in v.plan) h) x
+
+-- they accept it
+abbrev pub IsAccepted : View → List Packet → Packet → Type 0
+IsAccepted v h x = (a : Accepted) × (verdict_on v h x ≡ Accept a)
+
+-- what has gone out for packets
+abbrev pub gone_by : View → List Packet → List (List Frame)
+gone_by v h = gone_out (rules_in v.plan) h
+
+-- the packet was taken: it is accepted, the receiver stands for it too, and all blocks up to the
+-- horizon less the window have gone out
+pub record Takes {S : Type 0} (b : blocks.Ghosts S) (v v' : View) (x : Packet) (old new : S)
+    (t : Taken) : Type 0 where
+  pub verdict : (h : List Packet) → StandsFor v h → IsAccepted v h x
+  pub stands : (h : List Packet) → StandsFor v h → StandsFor v' (h ++ x ∷ [])
+  pub out : (h : List Packet) → StandsFor v h
+      → Gains b.whole old new (gone_by v h) (gone_by v (h ++ x ∷ []))
+  pub counts : v'.counts ≡ record {
+    late = v.counts.late + t.late;
+    copies = v.counts.copies + t.copies;
+    blocks = v.counts.blocks + t.released;
+  }
+  pub few : (t.late ≤ 384) × (t.copies ≤ 384)
+  pub grows : Grows v.plan v.session v'.session t.released
+  pub unspent : v'.spent ≡ false
+  pub step : BlockStep {A = Taken} {E = Offered} b old new (Ok t)
+
+-- the packet was refused, just as the session's rules say: nothing has changed, and the receiver
+-- stands for it too, since it changes nothing that goes out
+pub record Refuses {S : Type 0} (v v' : View) (x : Packet) (old new : S) (why : Refusal)
+    : Type 0 where
+  pub verdict : (h : List Packet) → StandsFor v h → IsRefusal (verdict_on v h x) why
+  pub stands : (h : List Packet) → StandsFor v h → StandsFor v' (h ++ x ∷ [])
+  pub quiet : (h : List Packet) → StandsFor v h → gone_by v (h ++ x ∷ []) ≡ gone_by v h
+  pub receiver : v' ≡ v
+  pub sink : new ≡ old
+
+-- the sink failed on a packet that is accepted: a prefix of the blocks that would have gone out on
+-- it did, the session and the counts are as before, and the receiver is spent
+pub record Fails {S : Type 0} (b : blocks.Ghosts S) (v v' : View) (x : Packet) (old new : S)
+    : Type 0 where
+  pub verdict : (h : List Packet) → StandsFor v h → IsAccepted v h x
+  pub part : (h : List Packet) → StandsFor v h
+      → GainsPart b.whole b.part old new (gone_by v h) (gone_by v (h ++ x ∷ []))
+  pub session : v'.session ≡ v.session
+  pub counts : v'.counts ≡ v.counts
+  pub spent : v'.spent ≡ true
+  pub step : BlockStep {A = Taken} {E = Offered} b old new (Err BlockFault)
+
+-- the session ended: the rest of its release went out, and all its blocks are counted
+pub record Finishes {S : Type 0} (b : blocks.Ghosts S) (v v' : View) (old new : S) (count : ℕ)
+    : Type 0 where
+  pub out : (h : List Packet) → StandsFor v h
+      → Gains b.whole old new (gone_by v h) (released (rules_in v.plan) h)
+  pub count_is : (h : List Packet) → StandsFor v h
+      → length (released (rules_in v.plan) h) ≡ length (gone_by v h) + count
+  pub counts : v'.counts ≡ record {
+    late = v.counts.late;
+    copies = v.counts.copies;
+    blocks = v.counts.blocks + count;
+  }
+  pub all : (h : List Packet) → StandsFor v h
+      → v'.counts.blocks ≡ block_count (rules_in v.plan) h
+
+-- the sink failed before the end: a prefix of the rest went out, and the counts are as before
+pub record FinishesPart {S : Type 0} (b : blocks.Ghosts S) (v v' : View) (old new : S)
+    : Type 0 where
+  pub part : (h : List Packet) → StandsFor v h
+      → GainsPart b.whole b.part old new (gone_by v h) (released (rules_in v.plan) h)
+  pub counts : v'.counts ≡ v.counts

@@ -1,0 +1,97 @@
+-- What the steps of a receiver do. This project's own.
+use Rattle.std.specs.Prelude.{◌≡◌, ℕ, ◌+◌, ◌<◌, ◌≤◌, ◌++◌, List, [], ◌∷◌, length, Option, Some, None}
+use Rattle.amr_frame.specs.declared.block_sink.BlockSink as blocks
+use Rattle.amr_frame.specs.declared.cell.Cell.{Cell}
+use Rattle.amr_playout.specs.declared.plan.Plan.{Plan}
+use Rattle.amr_playout.specs.declared.session.Begun.{Begun}
+use Rattle.amr_playout.specs.declared.step.Step.{Step}
+use Rattle.amr_playout.specs.declared.window.Reached.{Reached}
+use Rattle.amr_playout.specs.Gains.{Gains, GainsPart}
+use Rattle.amr_playout.specs.Plans.{rules_in}
+use Rattle.amr_playout.specs.Shown.{Shows}
+use Rattle.amr_playout.specs.Standing.{Holds, IsInside, IsNext, ShowsBefore, horizon_with, last_from, out_at, out_before, placed}
+use Rattle.amr_playout.specs.Window.{at, held_of}
+use Rattle.circular_buffer.specs.Buffer.{Buffer}
+use Rattle.spec_session.specs.Copies.{Copy, copies_in, copies_of}
+use Rattle.spec_session.specs.Counts.{different, late_in}
+use Rattle.spec_session.specs.Packets.{Packet}
+use Rattle.spec_session.specs.Release.{gone_of, released_of}
+use Rattle.spec_session.specs.Session.{Accepted}
+
+-- the copies that a session and a ring show
+abbrev pub Shown : Plan → Option Begun → Buffer Cell → List Copy → Type 0
+Shown plan before ring cs = ShowsBefore (rules_in plan) before (held_of ring.items) cs
+
+-- the accepted packets that a session and a ring keep
+abbrev pub Kept : Plan → Option Begun → Buffer Cell → List Accepted → Type 0
+Kept plan before ring acc = Holds (rules_in plan) before (held_of ring.items) acc
+
+-- the window was brought up to a horizon: it shows there what it showed before, and the blocks that
+-- left it went out
+pub record Slides {S : Type 0} (b : blocks.Ghosts S) (plan : Plan) (before : Option Begun)
+    (last : ℕ) (ring ring' : Buffer Cell) (old new : S) (r : Reached) : Type 0 where
+  pub horizon : r.horizon ≡ last
+  pub inside : IsNext (rules_in plan) r.horizon r.next
+  pub shows : (cs : List Copy) → Shown plan before ring cs
+      → Shows (rules_in plan) (at r.horizon) (at r.next) (held_of ring'.items) cs
+  pub out : (cs : List Copy) → Shown plan before ring cs → Gains b.whole old new
+      (out_before (rules_in plan) before cs) (out_at (rules_in plan) r.horizon cs)
+  pub counted : (cs : List Copy) → Shown plan before ring cs
+      → length (out_at (rules_in plan) r.horizon cs)
+      ≡ length (out_before (rules_in plan) before cs) + r.released
+  pub rise : (s : Begun) → before ≡ Some s → s.horizon + r.released ≤ r.horizon
+  pub none : before ≡ None → r.released ≡ 0
+
+-- it was not: a prefix of the blocks that would have left it went out
+abbrev pub SlidesPart : {S : Type 0} → blocks.Ghosts S → Plan → Option Begun → ℕ → Buffer Cell
+    → S → S → Type 0
+SlidesPart b plan before last ring old new = (cs : List Copy) → Shown plan before ring cs
+    → GainsPart b.whole b.part old new
+    (out_before (rules_in plan) before cs) (out_at (rules_in plan) last cs)
+
+-- a packet was accepted at a place behind the accepted ones before it
+pub record Accepts {S : Type 0} (b : blocks.Ghosts S) (plan : Plan) (before : Option Begun)
+    (x : Packet) (place : ℕ) (ring ring' : Buffer Cell) (old new : S) (s : Step) : Type 0 where
+  pub holds : (acc : List Accepted) → Kept plan before ring acc
+      → Kept plan (Some s.session) ring' (acc ++ placed before x place ∷ [])
+  pub out : (acc : List Accepted) → Kept plan before ring acc → Gains b.whole old new
+      (gone_of (rules_in plan) acc) (gone_of (rules_in plan) (acc ++ placed before x place ∷ []))
+  pub counted : (acc : List Accepted) → Kept plan before ring acc
+      → length (gone_of (rules_in plan) (acc ++ placed before x place ∷ []))
+      ≡ length (gone_of (rules_in plan) acc) + s.taken.released
+  pub copies : (acc : List Accepted) → Kept plan before ring acc
+      → different (copies_of (rules_in plan) acc ++ copies_in (rules_in plan) (placed before x place))
+      + s.taken.copies ≡ different (copies_of (rules_in plan) acc)
+      + length (copies_in (rules_in plan) (placed before x place))
+  pub late : s.taken.late ≡ late_in (rules_in plan) (placed before x place)
+  pub inside : IsInside (rules_in plan) (Some s.session)
+  pub horizon : s.session.horizon ≡ horizon_with before (last_from (rules_in plan) x.value place)
+  pub fits : last_from (rules_in plan) x.value place < place + plan.window
+  pub rise : (t : Begun) → before ≡ Some t → t.horizon + s.taken.released ≤ s.session.horizon
+  pub none : before ≡ None → s.taken.released ≡ 0
+  pub few : (s.taken.late ≤ 384) × (s.taken.copies ≤ 384)
+
+-- it was not: a prefix of the blocks that would have gone out on it did
+abbrev pub AcceptsPart : {S : Type 0} → blocks.Ghosts S → Plan → Option Begun → Packet → ℕ
+    → Buffer Cell → S → S → Type 0
+AcceptsPart b plan before x place ring old new =
+    (acc : List Accepted) → Kept plan before ring acc → GainsPart b.whole b.part old new
+    (gone_of (rules_in plan) acc) (gone_of (rules_in plan) (acc ++ placed before x place ∷ []))
+
+-- a session ended: the rest of it went out, and the ring is that of no session
+pub record Restarts {S : Type 0} (b : blocks.Ghosts S) (plan : Plan) (before : Option Begun)
+    (ring ring' : Buffer Cell) (old new : S) (released : ℕ) : Type 0 where
+  pub out : (acc : List Accepted) → Kept plan before ring acc → Gains b.whole old new
+      (gone_of (rules_in plan) acc) (released_of (rules_in plan) (copies_of (rules_in plan) acc))
+  pub counted : (acc : List Accepted) → Kept plan before ring acc
+      → length (released_of (rules_in plan) (copies_of (rules_in plan) acc))
+      ≡ length (gone_of (rules_in plan) acc) + released
+  pub over : (acc : List Accepted) → Kept plan before ring acc → Kept plan None ring' []
+  pub few : released ≤ plan.window
+
+-- it did not end: a prefix of the rest went out
+abbrev pub RestartsPart : {S : Type 0} → blocks.Ghosts S → Plan → Option Begun → Buffer Cell
+    → S → S → Type 0
+RestartsPart b plan before ring old new =
+    (acc : List Accepted) → Kept plan before ring acc → GainsPart b.whole b.part old new
+    (gone_of (rules_in plan) acc) (released_of (rules_in plan) (copies_of (rules_in plan) acc))
