@@ -1,5 +1,5 @@
 -- What was gained, told of the sinks and the plan that a caller has.
-use Rattle.std.proofs.Common.{◌≡◌, ◌+◌, ◌++◌, [], ◌∷◌, ◌∙◌, ℕ, List, length, ap, false, sym, subst, Option}
+use Rattle.std.proofs.Common.{◌≡◌, ◌+◌, ◌++◌, [], ◌∷◌, ◌∙◌, ℕ, List, length, ap, false, sym, subst, Err, Option}
 use Rattle.amr_gateway.proofs.Bounds.{bounded_same}
 use Rattle.amr_gateway.proofs.Offered.{refuses}
 use Rattle.amr_gateway.proofs.Texts.{gained_none}
@@ -7,19 +7,20 @@ use Rattle.amr_gateway.specs.Going.{IsBounded}
 use Rattle.amr_gateway.specs.Hearing.{Gained, Offers, gone_for}
 use Rattle.amr_gateway.specs.declared.heard.Heard.TheVariants.{NoPlace}
 use Rattle.amr_gateway.specs.declared.job.RecordJob.{RecordJob}
-use Rattle.amr_playout.specs.Offers.{Refuses}
+use Rattle.amr_playout.specs.Offers.{Answers, Fails, Refuses}
 use Rattle.amr_playout.specs.Plans.{rules_in}
 use Rattle.amr_playout.specs.Receiver.{View}
-use Rattle.amr_playout.specs.Refusals.{OnFault, OnRefusal}
+use Rattle.amr_store.specs.Written.{SameSink}
 use Rattle.amr_store.specs.declared.writer.StoreWriter.{StoreWriter}
 use Rattle.spec_session.specs.Packets.{Packet}
 use Rattle.spec_session.specs.Release.{gone_out}
 use Rattle.spec_session.specs.Session.{accepted}
-use Rattle.amr_playout.specs.declared.answers.Offered.{Offered as Answer}
+use Rattle.amr_playout.specs.declared.answers.Offered.{Offered}
 use Rattle.amr_playout.specs.declared.answers.Offered.TheVariants.{BlockFault, Refused}
 use Rattle.amr_playout.specs.declared.answers.Refusal.{Refusal}
 use Rattle.amr_playout.specs.declared.plan.Plan.{Plan}
 use Rattle.amr_frame.specs.Frames.{Frame}
+use Rattle.amr_frame.specs.declared.block_sink.BlockSink as blocks
 
 -- what holds of a sink's octets and of the blocks of a plan holds of those that are the same
 pub told_at : {O : Type 0} (R : Option (List ℕ) → Option (List ℕ) → List (List Frame) → List (List Frame) → Type 0)
@@ -30,12 +31,21 @@ told_at R got f f' plan plan' a b o n p e d g =
     (subst (λ t. R (got a) (got t) (f plan) (f' plan)) (sym d)
     (subst (λ t. R (got t) (got n) (f plan) (f' plan)) e g))
 
--- what holds of an answer that is a fault, and of one that is a refusal
-pub fault_at : (e : Answer) (P : Type 0) → e ≡ BlockFault → OnFault e P → P
-fault_at e P is f = subst (λ x. OnFault x P) is f
+-- what was done to a sink leaves it the same object, told of the sink that a caller has
+pub same_at : {O : Type 0} (same : O → O → Type 0) (beside : O → Option (List (List ℕ × List ℕ))) (a o : O) (w w' : StoreWriter O)
+    → w.sink.now ≡ a → o ≡ w'.sink.now → SameSink beside same w w' → same a o × (beside o ≡ beside a)
+same_at same beside a o w w' before after s = (
+  subst (same a) (sym after) (subst (λ t. same t w'.sink.now) before s.object),
+  ap beside after ∙ s.beside ∙ ap beside before,
+)
 
-pub refusal_at : (e : Answer) (why : Refusal) (P : Refusal → Type 0) → e ≡ Refused why → OnRefusal e P → P why
-refusal_at e why P is f = subst (λ x. OnRefusal x P) is f
+-- what an answer says that is a refusal, and one that is a fault
+module _ {S : Type 0} (b : blocks.Ghosts S) (v v' : View) (x : Packet) (old new : S) (e : Offered) where
+  pub refusal_at : (why : Refusal) → e ≡ Refused why → Answers b v v' x old new (Err e) → Refuses v v' x old new why
+  refusal_at why is a = subst (λ t. Answers b v v' x old new (Err t)) is a
+
+  pub fault_at : e ≡ BlockFault → Answers b v v' x old new (Err e) → Fails b v v' x old new
+  fault_at is a = subst (λ t. Answers b v v' x old new (Err t)) is a
 
 -- a packet that was refused, told of the sink that a caller has
 pub refused : {O : Type 0} (got : O → Option (List ℕ)) (job : RecordJob) (v v' : View) (x : Packet) (a o : O)

@@ -1,7 +1,9 @@
 use crate::{RecordJob, RunEnd, record_log};
-use amr_frame::{Codec, Profile};
+use amr_frame::{Codec, MemoryBlocks, Profile};
 use amr_io::{MemorySink, MemorySource};
-use amr_playout::Plan;
+use amr_payload::read_payload;
+use amr_playout::{Plan, Receiver};
+use rtp_packet::read_rtp;
 use std::alloc::{AllocError, Global};
 use std::process::Abort;
 use std::test::Fail;
@@ -55,6 +57,17 @@ fn expect(
 ) -> Result<(), Fail> {
     let log = log_of(rt.alloc(), packets)?;
     let wanted = join(rt.alloc(), file)?;
+    expect_file(rt, profile, &log, &wanted, refused)
+}
+
+// Records a log, and compares the file and how many payloads were refused.
+fn expect_file(
+    rt: &(impl Abort + Alloc<A = Global>),
+    profile: Profile,
+    log: &[u8],
+    wanted: &[u8],
+    refused: u64,
+) -> Result<(), Fail> {
     let plan = Plan {
         profile,
         window: 256,
@@ -69,12 +82,12 @@ fn expect(
         limit: 1 << 40,
     };
     for cut in [1usize, 7, 9_999] {
-        let mut input = MemorySource::create(rt.alloc(), &log, cut, &[])?;
-        let mut output = MemorySink::create(rt.alloc(), 999, cut, &[])?;
+        let mut input = MemorySource::create(rt.alloc(), log, cut, &[])?;
+        let mut output = MemorySink::create(rt.alloc(), 99_999, cut, &[])?;
         let report = record_log(rt.alloc(), &job, &mut input, &mut output);
         assert_eq!(rt; report.end, RunEnd::Done, "at {cut}");
         assert_eq!(rt; report.counts.payload, refused, "at {cut}");
-        assert_eq!(rt; output.octets(), wanted.as_slice(), "at {cut}");
+        assert_eq!(rt; output.octets(), wanted, "at {cut}");
     }
     Ok(())
 }
@@ -158,4 +171,64 @@ fn octet_aligned_payloads_are_recorded(rt: HostRuntime) -> Result<(), Fail> {
         &[(b"#!AMR_MC1.0\n", 3), (&[2], 0)],
         1,
     )
+}
+
+// A packet at this block, its payload one frame that begins with the block's number.
+fn add_packet(log: &mut Vec<u8>, block: u16) -> Result<(), AllocError> {
+    log.extend_from_slice(&[0, 45, 0x80, 0x60, 0, 0])?;
+    log.extend_from_slice(&(160 * u32::from(block)).to_be_bytes())?;
+    log.extend_from_slice(&[0, 0, 0, 0, 0xF0, 0x3C])?;
+    log.extend_from_slice(&block.to_be_bytes())?;
+    log.extend_from_slice(&[0; 29])
+}
+
+#[test]
+fn a_thousand_packets_in_threes_are_recorded_in_their_order(rt: HostRuntime) -> Result<(), Fail> {
+    let mut log = Vec::new(rt.alloc());
+    let mut wanted = Vec::new(rt.alloc());
+    wanted.extend_from_slice(HEAD)?;
+    for at in 0..999u16 {
+        // 2, 0, 1, 5, 3, 4, .. 998, 996, 997
+        add_packet(&mut log, at / 3 * 3 + (at + 2) % 3)?;
+        wanted.push(0x3C)?;
+        wanted.extend_from_slice(&at.to_be_bytes())?;
+        wanted.extend_from_slice(&[0; 29])?;
+    }
+    expect_file(&rt, aligned(false, false, None), &log, &wanted, 0)
+}
+
+#[test]
+fn a_receiver_tells_what_it_took(rt: HostRuntime) -> Result<(), Fail> {
+    let profile = aligned(false, false, None);
+    let plan = Plan {
+        profile,
+        window: 64,
+        reach: 100,
+    };
+    assert!(rt; profile.check().is_ok());
+    assert!(rt; plan.check().is_ok());
+    let mut receiver = Receiver::create(rt.alloc(), plan)?;
+    let mut out = MemoryBlocks::create(rt.alloc(), Codec::Amr, 1, 8)?;
+    let mut log = Vec::new(rt.alloc());
+    add_packet(&mut log, 7)?;
+    let Ok(rtp) = read_rtp(&log[2..]) else {
+        panic!(rt; "it is an RTP packet")
+    };
+    let Ok(payload) = read_payload(&profile, rtp.payload()) else {
+        panic!(rt; "it has a payload of the format")
+    };
+    let Ok(taken) = receiver.offer(&rtp, &payload, &mut out) else {
+        panic!(rt; "the first packet is taken")
+    };
+    assert_eq!(rt; (taken.late, taken.copies, taken.released), (0, 0, 0));
+    assert_eq!(rt; receiver.room(), 64);
+    assert_eq!(rt; receiver.horizon(), Some(0));
+    let Ok(count) = receiver.finish(&mut out) else {
+        panic!(rt; "the sink has room")
+    };
+    assert_eq!(rt; count, 1);
+    assert_eq!(rt; receiver.counts().blocks, 1);
+    assert_eq!(rt; out.blocks().len(), 1);
+    assert_eq!(rt; out.blocks()[0].ft, 7);
+    Ok(())
 }

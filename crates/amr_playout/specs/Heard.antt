@@ -1,5 +1,8 @@
 -- What a session hears of a packet that was read.
-use Rattle.amr_toc.specs.Viewed.{viewed}
+use Rattle.std.specs.Prelude.{◌≡◌}
+use Rattle.amr_playout.specs.declared.plan.Plan.{Plan}
+use Rattle.amr_playout.specs.Plans.{IsPlan}
+use Rattle.amr_toc.specs.Viewed.{format_of, viewed}
 use Rattle.amr_toc.specs.declared.view.PayloadView.{PayloadView}
 use Rattle.rtp_packet.specs.View.{packet}
 use Rattle.rtp_packet.specs.declared.view.RtpView.{RtpView}
@@ -13,3 +16,8 @@ heard rtp payload = record {
   timestamp = (packet rtp).timestamp;
   value = viewed payload;
 }
+
+-- the payload was read by the format of a valid plan
+pub record IsReadBy (plan : Plan) (payload : PayloadView) : Type 0 where
+  pub planned : IsPlan plan
+  pub format : format_of payload ≡ plan.profile

@@ -1,4 +1,5 @@
 pub mod Copied
+pub mod Counted
 pub mod Gains
 pub mod Heard
 pub mod Offers

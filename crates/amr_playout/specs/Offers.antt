@@ -1,12 +1,13 @@
 -- What an offer of a packet does, by its answer, and the end of a session. This project's own.
-use Rattle.std.specs.Prelude.{◌≡◌, ℕ, ◌+◌, ◌≤◌, ◌++◌, List, [], ◌∷◌, length, true, false, Ok, Err}
+use Rattle.std.specs.Prelude.{◌≡◌, ℕ, ◌+◌, ◌≤◌, ◌++◌, List, [], ◌∷◌, length, true, false, Ok, Err, Result}
 use Rattle.amr_frame.specs.declared.block_sink.BlockSink as blocks
 use Rattle.amr_frame.specs.Frames.{Frame}
 use Rattle.amr_frame.specs.Steps.{BlockStep}
 use Rattle.amr_playout.specs.declared.answers.Offered.{Offered}
-use Rattle.amr_playout.specs.declared.answers.Offered.TheVariants.{BlockFault}
+use Rattle.amr_playout.specs.declared.answers.Offered.TheVariants.{BlockFault, Refused}
 use Rattle.amr_playout.specs.declared.answers.Refusal.{Refusal}
 use Rattle.amr_playout.specs.declared.answers.Taken.{Taken}
+use Rattle.amr_playout.specs.Counted.{counted_with}
 use Rattle.amr_playout.specs.Gains.{Gains, GainsPart}
 use Rattle.amr_playout.specs.Plans.{rules_in}
 use Rattle.amr_playout.specs.Receiver.{Grows, StandsFor, View}
@@ -36,11 +37,7 @@ pub record Takes {S : Type 0} (b : blocks.Ghosts S) (v v' : View) (x : Packet) (
   pub stands : (h : List Packet) → StandsFor v h → StandsFor v' (h ++ x ∷ [])
   pub out : (h : List Packet) → StandsFor v h
       → Gains b.whole old new (gone_by v h) (gone_by v (h ++ x ∷ []))
-  pub counts : v'.counts ≡ record {
-    late = v.counts.late + t.late;
-    copies = v.counts.copies + t.copies;
-    blocks = v.counts.blocks + t.released;
-  }
+  pub counts : v'.counts ≡ counted_with v.counts t
   pub few : (t.late ≤ 384) × (t.copies ≤ 384)
   pub grows : Grows v.plan v.session v'.session t.released
   pub unspent : v'.spent ≡ false
@@ -67,6 +64,13 @@ pub record Fails {S : Type 0} (b : blocks.Ghosts S) (v v' : View) (x : Packet) (
   pub counts : v'.counts ≡ v.counts
   pub spent : v'.spent ≡ true
   pub step : BlockStep {A = Taken} {E = Offered} b old new (Err BlockFault)
+
+-- what an offer does, by its answer
+abbrev pub Answers : {S : Type 0} → blocks.Ghosts S → View → View → Packet → S → S
+    → Result Taken Offered → Type 0
+Answers b v v' x old new (Ok t) = Takes b v v' x old new t
+Answers b v v' x old new (Err (Refused why)) = Refuses v v' x old new why
+Answers b v v' x old new (Err BlockFault) = Fails b v v' x old new
 
 -- the session ended: the rest of its release went out, and all its blocks are counted
 pub record Finishes {S : Type 0} (b : blocks.Ghosts S) (v v' : View) (old new : S) (count : ℕ)

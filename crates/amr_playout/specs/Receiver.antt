@@ -1,5 +1,5 @@
 -- What contracts see of a receiver, and what it stands for. This project's own.
-use Rattle.std.specs.Prelude.{◌≡◌, ℕ, ◌+◌, ◌-◌, ◌^◌, ◌<◌, ◌≤◌, Bool, false, List, length, ℤ, Option, Some, None, option_map}
+use Rattle.std.specs.Prelude.{◌≡◌, ℕ, ◌+◌, ◌-◌, ◌*◌, ◌^◌, ◌<◌, ◌≤◌, Bool, false, List, length, ℤ, Option, Some, None, option_map}
 use Rattle.amr_frame.specs.Frames.{Frame}
 use Rattle.amr_playout.specs.declared.answers.Kept.{Kept}
 use Rattle.amr_playout.specs.declared.plan.Plan.{Plan}
@@ -14,8 +14,8 @@ use Rattle.spec_session.specs.Packets.{Packet}
 use Rattle.spec_session.specs.Release.{gone_out}
 use Rattle.spec_session.specs.Session.{Rules, accepted}
 
--- the plan; the session, where one has begun; what each cell of the window holds, by places and then
--- by channels; the counts; and whether the receiver was ended or its sink has failed
+-- the plan; the session, where one has begun; what each cell of the window holds, by places and
+-- then by channels; the counts; and whether the receiver was ended or its sink has failed
 pub record View : Type 0 where
   pub plan : Plan
   pub session : Option Begun
@@ -44,7 +44,8 @@ pub record Counted (rules : Rules) (counts : Kept) (h : List Packet) : Type 0 wh
   pub copies : counts.copies ≡ copy_count rules h
   pub blocks : counts.blocks ≡ length (gone_out rules h)
 
--- the receiver stands for these well-formed packets: it keeps their session, and counts what is theirs
+-- the receiver stands for these well-formed packets: it keeps their session, and its counts are
+-- theirs
 pub record StandsFor (v : View) (h : List Packet) : Type 0 where
   pub unspent : v.spent ≡ false
   pub kept : Holds (rules_in v.plan) v.session v.cells (accepted (rules_in v.plan) h)
@@ -68,3 +69,7 @@ Grows plan before None released = ⊥
 Grows plan None (Some s) released = (released ≡ 0) × (s.horizon < 2 ^ 24 + plan.window)
 Grows plan (Some t) (Some s) released =
     (t.horizon + released ≤ s.horizon) × (s.horizon ≤ t.horizon + plan.reach)
+
+-- it has a cell for each place of the window and each channel
+abbrev pub HasRoom : View → Type 0
+HasRoom v = length v.cells ≡ v.plan.window * v.plan.profile.channels

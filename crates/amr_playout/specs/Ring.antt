@@ -28,8 +28,8 @@ pub record KeepsRing (codec : Codec) (old new : Buffer Cell) : Type 0 where
   pub size : length new.items ≡ length old.items
   pub capacity : new.capacity ≡ old.capacity
 
--- the ring of a valid plan: it has a cell for each place of the window and each channel, and no room
--- for more, and its cells are of the plan's codec
+-- the ring of a valid plan: it has a cell for each place of the window and each channel, and no
+-- room for more, and its cells are of the plan's codec
 pub record IsRing (plan : Plan) (ring : Buffer Cell) : Type 0 where
   pub planned : IsPlan plan
   pub full : length ring.items ≡ plan.window * plan.profile.channels

@@ -8,8 +8,8 @@ use Rattle.spec_session.specs.Copies.{Copy}
 use Rattle.spec_session.specs.Release.{least}
 use Rattle.spec_session.specs.Session.{Rules}
 
--- of copies up to the horizon the cells are the best ones of the window, and next is the first place
--- of the window, or the least place of all copies where that is later
+-- of copies up to the horizon the cells are the best ones of the window, and next is the first
+-- place of the window, or the least place of all copies where that is later
 pub record Shows (rules : Rules) (horizon next : ℤ) (cells : List (Option Frame)) (cs : List Copy)
     : Type 0 where
   pub window : cells ≡ window_of rules cs (base_of rules horizon)

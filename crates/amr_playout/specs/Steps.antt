@@ -1,22 +1,69 @@
 -- What the steps of a receiver do. This project's own.
-use Rattle.std.specs.Prelude.{◌≡◌, ℕ, ◌+◌, ◌<◌, ◌≤◌, ◌++◌, List, [], ◌∷◌, length, Option, Some, None}
+use Rattle.std.specs.Prelude.{◌≡◌, ℕ, ◌+◌, ◌-◌, ◌<◌, ◌≤◌, ◌++◌, IsTrue, List, [], ◌∷◌, length, Option, Some, None, OnErr, OnOk, Result}
+use Rattle.amr_frame.specs.Blocks.{IsPresentBlock}
+use Rattle.amr_frame.specs.Frames.{Frame}
+use Rattle.amr_frame.specs.Steps.{BlockStep, TakesBlocks}
 use Rattle.amr_frame.specs.declared.block_sink.BlockSink as blocks
 use Rattle.amr_frame.specs.declared.cell.Cell.{Cell}
+use Rattle.amr_frame.specs.declared.codec.Codec.{Codec}
 use Rattle.amr_playout.specs.declared.plan.Plan.{Plan}
 use Rattle.amr_playout.specs.declared.session.Begun.{Begun}
 use Rattle.amr_playout.specs.declared.step.Step.{Step}
 use Rattle.amr_playout.specs.declared.window.Reached.{Reached}
 use Rattle.amr_playout.specs.Gains.{Gains, GainsPart}
 use Rattle.amr_playout.specs.Plans.{rules_in}
+use Rattle.amr_playout.specs.Ring.{IsFull, IsRing}
 use Rattle.amr_playout.specs.Shown.{Shows}
 use Rattle.amr_playout.specs.Standing.{Holds, IsInside, IsNext, ShowsBefore, horizon_with, last_from, out_at, out_before, placed}
-use Rattle.amr_playout.specs.Window.{at, held_of}
+use Rattle.amr_playout.specs.Window.{at, held_of, rows}
 use Rattle.circular_buffer.specs.Buffer.{Buffer}
 use Rattle.spec_session.specs.Copies.{Copy, copies_in, copies_of}
 use Rattle.spec_session.specs.Counts.{different, late_in}
 use Rattle.spec_session.specs.Packets.{Packet}
 use Rattle.spec_session.specs.Release.{gone_of, released_of}
 use Rattle.spec_session.specs.Session.{Accepted}
+
+-- the sink takes blocks of the plan's format
+abbrev pub TakesPlan : {S : Type 0} → blocks.Ghosts S → Plan → S → Type 0
+TakesPlan b plan sink = TakesBlocks b plan.profile.codec plan.profile.channels sink
+
+-- the sink takes a block, and these cells are one for it
+pub record TakesBlock {S : Type 0} (b : blocks.Ghosts S) (sink : S) (cells : List Cell)
+    : Type 0 where
+  pub ready : IsTrue (b.ready sink)
+  pub block : IsPresentBlock (b.codec sink) (b.channels sink) cells
+
+-- the block was put, or where the sink failed a part of it
+pub record PutsBlock {S A E : Type 0} (b : blocks.Ghosts S) (old new : S) (block : List Frame)
+    (result : Result A E) : Type 0 where
+  pub whole : OnOk result (b.whole old block new)
+  pub part : OnErr result (b.part old block new)
+  pub step : BlockStep b old new result
+
+-- a full ring has room for a block of so many channels, and the sink takes such blocks
+pub record CanPush {S : Type 0} (b : blocks.Ghosts S) (codec : Codec) (channels : ℕ)
+    (ring : Buffer Cell) (sink : S) : Type 0 where
+  pub full : IsFull codec ring
+  pub few : channels ≤ 6
+  pub room : channels ≤ ring.capacity
+  pub takes : TakesBlocks b codec channels sink
+
+-- the blocks that a slide by so many pushes out of a ring, but the first ones that are skipped
+abbrev pub pushed_out : ℕ → Buffer Cell → ℕ → ℕ → List (List Frame)
+pushed_out channels ring skip count = rows channels (held_of ring.items) skip (count - skip)
+
+-- the ring is that of the plan, the session stands right, and the sink takes the plan's blocks
+pub record IsReady {S : Type 0} (b : blocks.Ghosts S) (plan : Plan) (before : Option Begun)
+    (ring : Buffer Cell) (sink : S) : Type 0 where
+  pub ringed : IsRing plan ring
+  pub inside : IsInside (rules_in plan) before
+  pub takes : TakesPlan b plan sink
+
+-- the ring is still that of the plan, and the sink took a step
+pub record StaysReady {S A E : Type 0} (b : blocks.Ghosts S) (plan : Plan) (ring : Buffer Cell)
+    (old new : S) (result : Result A E) : Type 0 where
+  pub ringed : IsRing plan ring
+  pub step : BlockStep b old new result
 
 -- the copies that a session and a ring show
 abbrev pub Shown : Plan → Option Begun → Buffer Cell → List Copy → Type 0
@@ -60,8 +107,9 @@ pub record Accepts {S : Type 0} (b : blocks.Ghosts S) (plan : Plan) (before : Op
       → length (gone_of (rules_in plan) (acc ++ placed before x place ∷ []))
       ≡ length (gone_of (rules_in plan) acc) + s.taken.released
   pub copies : (acc : List Accepted) → Kept plan before ring acc
-      → different (copies_of (rules_in plan) acc ++ copies_in (rules_in plan) (placed before x place))
-      + s.taken.copies ≡ different (copies_of (rules_in plan) acc)
+      → different (copies_of (rules_in plan) acc
+      ++ copies_in (rules_in plan) (placed before x place)) + s.taken.copies
+      ≡ different (copies_of (rules_in plan) acc)
       + length (copies_in (rules_in plan) (placed before x place))
   pub late : s.taken.late ≡ late_in (rules_in plan) (placed before x place)
   pub inside : IsInside (rules_in plan) (Some s.session)

@@ -1,4 +1,4 @@
--- What is found of a packet before it is accepted: its place, or why it is refused. This project's own.
+-- What is found of a packet first: its place, or why it is refused. This project's own.
 use Rattle.std.specs.Prelude.{◌≡◌, ℕ, ◌+◌, ◌≤◌, List, Option, Some}
 use Rattle.amr_frame.specs.Frames.{Frame}
 use Rattle.amr_playout.specs.declared.answers.Refusal.{Refusal}

@@ -9,7 +9,8 @@ use Rattle.spec_session.specs.Quality.{stored}
 use Rattle.spec_session.specs.Release.{best_at, blocks_between, least}
 use Rattle.spec_session.specs.Session.{Rules}
 
--- places as the receiver counts them: the first packet's is 2^24, so that those before it are numbers too
+-- places as the receiver counts them: the first packet's is 2^24, so that those before it are
+-- numbers too
 abbrev pub at : ℕ → ℤ
 at n = pos n -ℤ pos (2 ^ 24)
 
@@ -39,11 +40,13 @@ base_of rules horizon = (horizon -ℤ pos rules.window) +ℤ pos 1
 
 -- the best of copies for item k of a window from place base on
 abbrev pub cell_at : Rules → List Copy → ℤ → ℕ → Option Frame
-cell_at rules cs base k = best_at rules.codec cs (base +ℤ pos (k / rules.channels)) (k % rules.channels)
+cell_at rules cs base k =
+    best_at rules.codec cs (base +ℤ pos (k / rules.channels)) (k % rules.channels)
 
 -- the best of copies for a whole window
 abbrev pub window_of : Rules → List Copy → ℤ → List (Option Frame)
-window_of rules cs base = map (cell_at rules cs base) (range_with_len 0 (rules.window * rules.channels))
+window_of rules cs base =
+    map (cell_at rules cs base) (range_with_len 0 (rules.window * rules.channels))
 
 -- the blocks with places up to t of copies that stand up to the horizon
 abbrev pub out_to : Rules → ℤ → List Copy → ℤ → List (List Frame)

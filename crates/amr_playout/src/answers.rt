@@ -1,4 +1,6 @@
 // What comes of offering a packet.
+ghost use Rattle.std.specs.Prelude.{◌≡◌, ◌+◌, ◌^◌, ◌<◌};
+ghost use Rattle.amr_playout.specs.Counted.{counted_with};
 
 /// What an accepted packet gave.
 #[derive(Clone, Copy, Debug, PartialEq, Eq)]
@@ -40,4 +42,20 @@ pub struct Kept {
     pub copies: u64,
     /// The blocks put out.
     pub blocks: u64,
+}
+
+impl Kept {
+    /// The counts with those of a packet more.
+    pub fn with(self, taken: Taken) -> Kept
+        requires late { self.late < 2 ^ 63 }
+        requires copies { self.copies < 2 ^ 63 }
+        requires blocks { self.blocks + taken.released < 2 ^ 64 }
+        ensures { result ≡ counted_with self taken }
+    {
+        Kept {
+            late: self.late + u64::from(taken.late),
+            copies: self.copies + u64::from(taken.copies),
+            blocks: self.blocks + taken.released,
+        }
+    }
 }

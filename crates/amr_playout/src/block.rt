@@ -1,10 +1,11 @@
 // Putting out blocks: the one at the front of a ring, and blocks for which nothing came.
-ghost use Rattle.std.specs.Prelude.{◌≡◌, ◌+◌, ◌≤◌, ◌++◌, IsTrue, None, OnErr, OnOk, drop, length, map, replicate, take};
+ghost use Rattle.std.specs.Prelude.{◌≡◌, ◌+◌, ◌≤◌, ◌++◌, None, OnErr, OnOk, drop, length, map, replicate, take};
 ghost use Rattle.amr_frame.specs.Blocks.{GotBlocks, GotPrefix, IsPresentBlock, frames_of};
 ghost use Rattle.amr_frame.specs.Frames.{no_data};
 ghost use Rattle.amr_frame.specs.Steps.{BlockStep, TakesBlocks};
 ghost use Rattle.amr_frame.specs.declared.codec.Codec.{Codec};
-ghost use Rattle.amr_playout.specs.Ring.{IsFull, KeepsRing};
+ghost use Rattle.amr_playout.specs.Ring.{KeepsRing};
+ghost use Rattle.amr_playout.specs.Steps.{CanPush, PutsBlock, TakesBlock};
 ghost use Rattle.amr_playout.specs.Window.{held_of};
 ghost use Rattle.spec_session.specs.Quality.{stored};
 
@@ -21,19 +22,13 @@ pub fn put_front<B: BlockSink>(
     channels: usize,
     out: &mut B,
 ) -> Result<(), Failed>
-    requires full { IsFull codec ring.old }
-    requires few { channels ≤ 6 }
-    requires room { channels ≤ ring.old.capacity }
-    requires sink { TakesBlocks B.BlockSink codec channels out.old }
+    requires ready { CanPush B.BlockSink codec channels ring.old out.old }
 
     ensures items { OnOk result (held_of ring.new.items
         ≡ drop channels (held_of ring.old.items) ++ replicate channels None) }
-    ensures whole { OnOk result
-        (B.whole out.old (map stored (take channels (held_of ring.old.items))) out.new) }
-    ensures part { OnErr result
-        (B.part out.old (map stored (take channels (held_of ring.old.items))) out.new) }
+    ensures put { PutsBlock B.BlockSink out.old out.new
+        (map stored (take channels (held_of ring.old.items))) result }
     ensures ring { KeepsRing codec ring.old ring.new }
-    ensures step { BlockStep B.BlockSink out.old out.new result }
 {
     fill_front(ring, codec, channels);
     lend_front(ring, channels, out)?;
@@ -49,15 +44,10 @@ fn lend_front<B: BlockSink>(
 ) -> Result<(), Failed>
     requires within { channels ≤ length ring.now.items }
     requires few { channels ≤ 6 }
-    requires ready { IsTrue (B.ready out.old) }
-    requires block { IsPresentBlock (B.codec out.old) (B.channels out.old)
-        (take channels ring.now.items) }
+    requires block { TakesBlock B.BlockSink out.old (take channels ring.now.items) }
 
-    ensures whole { OnOk result
-        (B.whole out.old (frames_of (take channels ring.now.items)) out.new) }
-    ensures part { OnErr result
-        (B.part out.old (frames_of (take channels ring.now.items)) out.new) }
-    ensures step { BlockStep B.BlockSink out.old out.new result }
+    ensures put { PutsBlock B.BlockSink out.old out.new (frames_of (take channels ring.now.items))
+        result }
 {
     let (front, back) = ring.as_slices();
     if channels <= front.len() {
@@ -72,13 +62,9 @@ fn lend_front<B: BlockSink>(
 #[inline(never)]
 fn put_pieces<B: BlockSink>(front: &[Cell], back: &[Cell], out: &mut B) -> Result<(), Failed>
     requires short { length front.now + length back.now ≤ 6 }
-    requires ready { IsTrue (B.ready out.old) }
-    requires block { IsPresentBlock (B.codec out.old) (B.channels out.old)
-        (front.now ++ back.now) }
+    requires block { TakesBlock B.BlockSink out.old (front.now ++ back.now) }
 
-    ensures whole { OnOk result (B.whole out.old (frames_of (front.now ++ back.now)) out.new) }
-    ensures part { OnErr result (B.part out.old (frames_of (front.now ++ back.now)) out.new) }
-    ensures step { BlockStep B.BlockSink out.old out.new result }
+    ensures put { PutsBlock B.BlockSink out.old out.new (frames_of (front.now ++ back.now)) result }
 {
     let mut block: ArrayVec<Cell, 6> = ArrayVec::new();
     let Ok(()) = block.try_extend_from_slice(front) else {

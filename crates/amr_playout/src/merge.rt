@@ -2,11 +2,12 @@
 ghost use Rattle.std.specs.Prelude.{◌≡◌, ◌+◌, ◌-◌, ◌*◌, ◌/◌, ◌%◌, ◌^◌, ◌<◌, ◌≤◌, ◌⊎◌, ◌-ℤ◌, List, is_some, length, min, pos};
 ghost use Rattle.amr_frame.specs.Cells.{frame_of};
 ghost use Rattle.amr_playout.specs.Copied.{HoldsBest, IsPast, Merges, TakesCopies, copy_past, newly};
+ghost use Rattle.amr_playout.specs.Heard.{IsReadBy};
 ghost use Rattle.amr_playout.specs.Plans.{rules_in};
 ghost use Rattle.amr_playout.specs.Ring.{IsPresentCell, IsRing};
 ghost use Rattle.amr_playout.specs.Standing.{IsFitting, last_from};
 ghost use Rattle.amr_playout.specs.Window.{at, held_of};
-ghost use Rattle.amr_toc.specs.Viewed.{format_of, viewed};
+ghost use Rattle.amr_toc.specs.Viewed.{viewed};
 ghost use Rattle.spec_session.specs.Copies.{Copy, copies_in};
 ghost use Rattle.spec_session.specs.Release.{best_at};
 ghost use Rattle.spec_session.specs.Session.{Accepted};
@@ -103,7 +104,7 @@ pub fn merge_all(
     next: u64,
 ) -> Merged
     requires ring { IsRing plan.now ring.old }
-    requires read { format_of payload.now ≡ plan.now.profile }
+    requires read { IsReadBy plan.now payload.now }
     requires fitting { IsFitting plan.now (viewed payload.now) }
     requires low { (base ≤ place) ⊎ (base ≤ edge + 1) }
     requires high { last_from (rules_in plan.now) (viewed payload.now) place

@@ -1,9 +1,9 @@
 // The receiver of a session.
-ghost use Rattle.std.specs.Prelude.{◌≡◌, ◌*◌, ◌^◌, ◌<◌, ◌≤◌, IfErr, IfOk, List, None, OnErr, [], false, length, true};
-ghost use Rattle.amr_frame.specs.Steps.{BlockStep, TakesBlocks};
+ghost use Rattle.std.specs.Prelude.{◌≡◌, ◌*◌, ◌^◌, ◌<◌, ◌≤◌, IfOk, List, None, OnErr, [], false, length, true};
+ghost use Rattle.amr_frame.specs.Steps.{BlockStep};
 ghost use Rattle.amr_playout.specs.Heard.{heard};
 ghost use Rattle.amr_playout.specs.Plans.{IsPlan, rules_in};
-ghost use Rattle.amr_playout.specs.Refusals.{OnFault, OnRefusal};
+ghost use Rattle.amr_playout.specs.Steps.{TakesPlan};
 ghost use Rattle.amr_toc.specs.Viewed.{format_of};
 ghost use Rattle.spec_session.specs.Packets.{Packet};
 ghost use Rattle.spec_session.specs.Session.{horizon};
@@ -45,8 +45,8 @@ impl Model for Receiver {
 }
 
 impl Receiver {
-    ghost use Rattle.amr_playout.specs.Offers.{Fails, Finishes, FinishesPart, Refuses, Takes};
-    ghost use Rattle.amr_playout.specs.Receiver.{StandsFor, TakesPackets, horizon_in};
+    ghost use Rattle.amr_playout.specs.Offers.{Answers, Finishes, FinishesPart};
+    ghost use Rattle.amr_playout.specs.Receiver.{HasRoom, StandsFor, TakesPackets, horizon_in};
 
     /// A receiver that has heard nothing, with room for each channel of each place of the window.
     pub fn create(alloc: Global, plan: Plan) -> Result<Receiver, AllocError>
@@ -112,18 +112,12 @@ impl Receiver {
     ) -> Result<Taken, Offered>
         requires ready { TakesPackets self.old }
         requires read { format_of payload.now ≡ self.old.plan.profile }
-        requires sink { TakesBlocks B.BlockSink self.old.plan.profile.codec
-            self.old.plan.profile.channels out.old }
+        requires sink { TakesPlan B.BlockSink self.old.plan out.old }
 
-        ensures taken { IfOk result
-            (Takes B.BlockSink self.old self.new (heard rtp.now payload.now) out.old out.new) }
-        ensures refused { IfErr result (λ e. OnRefusal e
-            (Refuses self.old self.new (heard rtp.now payload.now) out.old out.new)) }
-        ensures failed { IfErr result (λ e. OnFault e
-            (Fails B.BlockSink self.old self.new (heard rtp.now payload.now) out.old out.new)) }
+        ensures answer { Answers B.BlockSink self.old self.new (heard rtp.now payload.now)
+            out.old out.new result }
         ensures plan { self.new.plan ≡ self.old.plan }
-        ensures room { length self.new.cells
-            ≡ self.new.plan.window * self.new.plan.profile.channels }
+        ensures room { HasRoom self.new }
         ensures same { B.same out.old out.new }
     {
         let place = match seat(&self.plan, &self.session, rtp, payload) {
@@ -141,9 +135,7 @@ impl Receiver {
         ) {
             Ok(step) => {
                 self.session = Some(step.session);
-                self.counts.late += u64::from(step.taken.late);
-                self.counts.copies += u64::from(step.taken.copies);
-                self.counts.blocks += step.taken.released;
+                self.counts = self.counts.with(step.taken);
                 Ok(step.taken)
             }
             Err(_) => {
@@ -156,8 +148,7 @@ impl Receiver {
     /// Puts out the rest, tells how many blocks it had, and ends the receiver.
     pub fn finish<B: BlockSink>(&mut self, out: &mut B) -> Result<u64, Failed>
         requires unspent { self.old.spent ≡ false }
-        requires sink { TakesBlocks B.BlockSink self.old.plan.profile.codec
-            self.old.plan.profile.channels out.old }
+        requires sink { TakesPlan B.BlockSink self.old.plan out.old }
 
         ensures finished { IfOk result
             (Finishes B.BlockSink self.old self.new out.old out.new) }
@@ -166,8 +157,7 @@ impl Receiver {
         ensures spent { self.new.spent ≡ true }
         ensures session { self.new.session ≡ self.old.session }
         ensures plan { self.new.plan ≡ self.old.plan }
-        ensures room { length self.new.cells
-            ≡ self.new.plan.window * self.new.plan.profile.channels }
+        ensures room { HasRoom self.new }
         ensures step { BlockStep B.BlockSink out.old out.new result }
     {
         self.spent = true;

@@ -1,15 +1,13 @@
 // Accepting a packet whose place is known.
 ghost use Rattle.std.specs.Prelude.{◌≡◌, ℤ, ◌+◌, ◌-◌, ◌*◌, ◌%◌, ◌^◌, ◌<◌, ◌≤◌, cond, int_lt, not, ◌≤ℤ◌, ◌<ℤ◌, ◌+ℤ◌, ◌-ℤ◌, IfOk, None, OnErr, Some, length};
-ghost use Rattle.amr_frame.specs.Steps.{BlockStep, TakesBlocks};
 ghost use Rattle.amr_playout.specs.Copied.{IsPast};
-ghost use Rattle.amr_playout.specs.Heard.{heard};
+ghost use Rattle.amr_playout.specs.Heard.{IsReadBy, heard};
 ghost use Rattle.amr_playout.specs.Plans.{IsPlan, rules_in};
-ghost use Rattle.amr_playout.specs.Ring.{IsRing};
 ghost use Rattle.amr_playout.specs.Standing.{IsInside, IsSeat, edge_with};
-ghost use Rattle.amr_playout.specs.Steps.{Accepts, AcceptsPart};
+ghost use Rattle.amr_playout.specs.Steps.{Accepts, AcceptsPart, IsReady, StaysReady};
 ghost use Rattle.amr_playout.specs.Window.{at};
 ghost use Rattle.amr_playout.specs.declared.session.Begun.{Begun as Start};
-ghost use Rattle.amr_toc.specs.Viewed.{format_of, viewed};
+ghost use Rattle.amr_toc.specs.Viewed.{viewed};
 ghost use Rattle.rtp_packet.specs.View.{packet};
 ghost use Rattle.spec_session.specs.Counts.{late_in};
 ghost use Rattle.spec_session.specs.Session.{Accepted};
@@ -44,18 +42,15 @@ pub fn accept<B: BlockSink>(
     payload: &PayloadView<'_>,
     out: &mut B,
 ) -> Result<Step, Failed>
-    requires ring { IsRing plan.now ring.old }
-    requires inside { IsInside (rules_in plan.now) before.now }
-    requires read { format_of payload.now ≡ plan.now.profile }
+    requires ready { IsReady B.BlockSink plan.now before.now ring.old out.old }
+    requires read { IsReadBy plan.now payload.now }
     requires seat { IsSeat before.now place }
-    requires sink { TakesBlocks B.BlockSink plan.now.profile.codec plan.now.profile.channels out.old }
 
     ensures accepted { IfOk result (Accepts B.BlockSink plan.now before.now
         (heard rtp.now payload.now) place ring.old ring.new out.old out.new) }
     ensures part { OnErr result (AcceptsPart B.BlockSink plan.now before.now
         (heard rtp.now payload.now) place ring.old out.old out.new) }
-    ensures ring { IsRing plan.now ring.new }
-    ensures step { BlockStep B.BlockSink out.old out.new result }
+    ensures stays { StaysReady B.BlockSink plan.now ring.new out.old out.new result }
 {
     let last = last_of(plan, place, payload);
     let edge = edge_of(plan, before, place);
@@ -107,8 +102,7 @@ fn start_of(before: &Option<Begun>, rtp: &RtpView<'_>) -> (u32, u32)
 
 /// How many blocks of a packet aren't in time.
 fn late_blocks(plan: &Plan, edge: u64, place: u64, payload: &PayloadView<'_>) -> u32
-    requires plan { IsPlan plan.now }
-    requires read { format_of payload.now ≡ plan.now.profile }
+    requires read { IsReadBy plan.now payload.now }
     requires place { place < 2 ^ 62 + 2 ^ 30 }
     ensures late { (a : Accepted) → IsPast (rules_in plan.now) (viewed payload.now) place edge a
         → result ≡ late_in (rules_in plan.now) a }

@@ -3,12 +3,12 @@ ghost use Rattle.std.specs.Int.{cast_signed, w32};
 ghost use Rattle.std.specs.Prelude.{◌≡◌, ◌+◌, ◌-◌, ◌*◌, ◌^◌, ◌<◌, ◌≤◌, IfErr, IfOk, List, None, Option, Some};
 ghost use Rattle.amr_frame.specs.Frames.{Frame};
 ghost use Rattle.amr_frame.specs.Tables.{ticks};
-ghost use Rattle.amr_playout.specs.Heard.{heard};
-ghost use Rattle.amr_playout.specs.Plans.{IsPlan, rules_in};
+ghost use Rattle.amr_playout.specs.Heard.{IsReadBy, heard};
+ghost use Rattle.amr_playout.specs.Plans.{rules_in};
 ghost use Rattle.amr_playout.specs.Standing.{IsBelow, IsFitting, IsInside, IsSeat, last_from};
 ghost use Rattle.amr_playout.specs.Verdicts.{IsDeclined, IsSeated, IsWithinReach};
 ghost use Rattle.amr_playout.specs.Window.{at};
-ghost use Rattle.amr_toc.specs.Viewed.{format_of, viewed};
+ghost use Rattle.amr_toc.specs.Viewed.{viewed};
 ghost use Rattle.spec_session.specs.Places.{apart, place_near};
 
 use crate::answers::Refusal;
@@ -31,8 +31,7 @@ pub fn seat(
     rtp: &RtpView<'_>,
     payload: &PayloadView<'_>,
 ) -> Result<u64, Refusal>
-    requires plan { IsPlan plan.now }
-    requires read { format_of payload.now ≡ plan.now.profile }
+    requires read { IsReadBy plan.now payload.now }
     requires inside { IsInside (rules_in plan.now) before.now }
     requires below { IsBelow before.now }
 
@@ -57,8 +56,7 @@ fn judge(
     rtp: &RtpView<'_>,
     payload: &PayloadView<'_>,
 ) -> Result<u64, Refusal>
-    requires plan { IsPlan plan.now }
-    requires read { format_of payload.now ≡ plan.now.profile }
+    requires read { IsReadBy plan.now payload.now }
     requires inside { IsInside (rules_in plan.now) (Some session.now) }
     requires below { session.now.horizon < 2 ^ 62 + 2 ^ 24 }
 
@@ -94,8 +92,7 @@ fn judge(
 
 /// The last place of a packet at a place.
 pub fn last_of(plan: &Plan, place: u64, payload: &PayloadView<'_>) -> u64
-    requires plan { IsPlan plan.now }
-    requires read { format_of payload.now ≡ plan.now.profile }
+    requires read { IsReadBy plan.now payload.now }
     requires place { place < 2 ^ 62 + 2 ^ 30 }
     ensures last { result ≡ last_from (rules_in plan.now) (viewed payload.now) place }
     ensures fitting { IsFitting plan.now (viewed payload.now) }

@@ -1,12 +1,11 @@
 // The window of a session: brought up to a later horizon, with the blocks put out that leave it.
 ghost use Rattle.std.specs.Prelude.{◌≡◌, ◌*◌, ◌-◌, ◌+◌, ◌^◌, ◌<◌, ◌≤◌, IfOk, None, OnErr, OnOk, Some, length, max};
 ghost use Rattle.amr_frame.specs.Blocks.{GotBlocks, GotPrefix};
-ghost use Rattle.amr_frame.specs.Steps.{BlockStep, TakesBlocks};
-ghost use Rattle.amr_playout.specs.Plans.{rules_in};
-ghost use Rattle.amr_playout.specs.Ring.{IsFull, IsRing, KeepsRing};
-ghost use Rattle.amr_playout.specs.Standing.{IsInside, horizon_with};
-ghost use Rattle.amr_playout.specs.Steps.{Restarts, RestartsPart, Slides, SlidesPart};
-ghost use Rattle.amr_playout.specs.Window.{held_of, rows, slid};
+ghost use Rattle.amr_frame.specs.Steps.{BlockStep};
+ghost use Rattle.amr_playout.specs.Ring.{IsRing, KeepsRing};
+ghost use Rattle.amr_playout.specs.Standing.{horizon_with};
+ghost use Rattle.amr_playout.specs.Steps.{CanPush, IsReady, Restarts, RestartsPart, Slides, SlidesPart, StaysReady, TakesPlan, pushed_out};
+ghost use Rattle.amr_playout.specs.Window.{held_of, slid};
 
 use crate::block::{put_front, put_no_data};
 use crate::plan::Plan;
@@ -35,16 +34,15 @@ fn advance<B: BlockSink>(
 ) -> Result<(), Failed>
     requires ring { IsRing plan.now ring.old }
     requires skip { skip ≤ plan.now.window }
-    requires sink { TakesBlocks B.BlockSink plan.now.profile.codec plan.now.profile.channels out.old }
+    requires sink { TakesPlan B.BlockSink plan.now out.old }
 
     ensures items { OnOk result (held_of ring.new.items
         ≡ slid (held_of ring.old.items) (count * plan.now.profile.channels)) }
     ensures out { OnOk result (GotBlocks B.whole out.old
-        (rows plan.now.profile.channels (held_of ring.old.items) skip (count - skip)) out.new) }
-    ensures part { OnErr result (GotPrefix B.whole B.part out.old
-        (rows plan.now.profile.channels (held_of ring.old.items) skip (count - skip)) out.new) }
-    ensures ring { IsRing plan.now ring.new }
-    ensures step { BlockStep B.BlockSink out.old out.new result }
+        (pushed_out plan.now.profile.channels ring.old skip count) out.new) }
+    ensures part { OnErr result (GotPrefix B.whole B.part
+        out.old (pushed_out plan.now.profile.channels ring.old skip count) out.new) }
+    ensures stays { StaysReady B.BlockSink plan.now ring.new out.old out.new result }
 {
     let channels = usize::from(plan.profile.channels);
     let pass = count.min(u64::from(plan.window));
@@ -64,17 +62,14 @@ fn put_held<B: BlockSink>(
     count: u64,
     out: &mut B,
 ) -> Result<(), Failed>
-    requires full { IsFull codec ring.old }
-    requires few { channels ≤ 6 }
-    requires room { channels ≤ ring.old.capacity }
-    requires sink { TakesBlocks B.BlockSink codec channels out.old }
+    requires ready { CanPush B.BlockSink codec channels ring.old out.old }
 
     ensures items { OnOk result
         (held_of ring.new.items ≡ slid (held_of ring.old.items) (count * channels)) }
-    ensures out { OnOk result (GotBlocks B.whole out.old
-        (rows channels (held_of ring.old.items) skip (count - skip)) out.new) }
+    ensures out { OnOk result (GotBlocks B.whole
+        out.old (pushed_out channels ring.old skip count) out.new) }
     ensures part { OnErr result (GotPrefix B.whole B.part out.old
-        (rows channels (held_of ring.old.items) skip (count - skip)) out.new) }
+        (pushed_out channels ring.old skip count) out.new) }
     ensures ring { KeepsRing codec ring.old ring.new }
     ensures step { BlockStep B.BlockSink out.old out.new result }
 {
@@ -97,17 +92,14 @@ fn slide<B: BlockSink>(
     last: u64,
     out: &mut B,
 ) -> Result<Reached, Failed>
-    requires ring { IsRing plan.now ring.old }
-    requires inside { IsInside (rules_in plan.now) (Some session.now) }
+    requires ready { IsReady B.BlockSink plan.now (Some session.now) ring.old out.old }
     requires last { (session.now.horizon ≤ last) × (last < 2 ^ 64 - 1) }
-    requires sink { TakesBlocks B.BlockSink plan.now.profile.codec plan.now.profile.channels out.old }
 
     ensures slid { IfOk result (Slides B.BlockSink plan.now (Some session.now) last
         ring.old ring.new out.old out.new) }
     ensures part { OnErr result (SlidesPart B.BlockSink plan.now (Some session.now) last
         ring.old out.old out.new) }
-    ensures ring { IsRing plan.now ring.new }
-    ensures step { BlockStep B.BlockSink out.old out.new result }
+    ensures stays { StaysReady B.BlockSink plan.now ring.new out.old out.new result }
 {
     let window = u64::from(plan.window);
     let skip = session.next - (session.horizon + 1 - window);
@@ -128,17 +120,14 @@ pub fn reach_to<B: BlockSink>(
     last: u64,
     out: &mut B,
 ) -> Result<Reached, Failed>
-    requires ring { IsRing plan.now ring.old }
-    requires inside { IsInside (rules_in plan.now) before.now }
+    requires ready { IsReady B.BlockSink plan.now before.now ring.old out.old }
     requires last { (before.now ≡ None → 2 ^ 24 ≤ last) × (last < 2 ^ 63) }
-    requires sink { TakesBlocks B.BlockSink plan.now.profile.codec plan.now.profile.channels out.old }
 
     ensures slid { IfOk result (Slides B.BlockSink plan.now before.now
         (horizon_with before.now last) ring.old ring.new out.old out.new) }
     ensures part { OnErr result (SlidesPart B.BlockSink plan.now before.now
         (horizon_with before.now last) ring.old out.old out.new) }
-    ensures ring { IsRing plan.now ring.new }
-    ensures step { BlockStep B.BlockSink out.old out.new result }
+    ensures stays { StaysReady B.BlockSink plan.now ring.new out.old out.new result }
 {
     match before {
         None => Ok(Reached {
@@ -158,16 +147,13 @@ pub fn restart<B: BlockSink>(
     before: &Option<Begun>,
     out: &mut B,
 ) -> Result<u64, Failed>
-    requires ring { IsRing plan.now ring.old }
-    requires inside { IsInside (rules_in plan.now) before.now }
-    requires sink { TakesBlocks B.BlockSink plan.now.profile.codec plan.now.profile.channels out.old }
+    requires ready { IsReady B.BlockSink plan.now before.now ring.old out.old }
 
     ensures over { IfOk result (Restarts B.BlockSink plan.now before.now
         ring.old ring.new out.old out.new) }
     ensures part { OnErr result (RestartsPart B.BlockSink plan.now before.now
         ring.old out.old out.new) }
-    ensures ring { IsRing plan.now ring.new }
-    ensures step { BlockStep B.BlockSink out.old out.new result }
+    ensures stays { StaysReady B.BlockSink plan.now ring.new out.old out.new result }
 {
     match before {
         None => Ok(0),

@@ -1,6 +1,6 @@
 use Rattle.std.proofs.Common.{◌≡◌, ◌+◌, [], ◌∷◌, ◌++◌, length, sym, ap, ◌∙◌, subst, arith}
 use Rattle.amr_gateway.proofs.Bounds.{bounded_more, takes_packets}
-use Rattle.amr_gateway.proofs.Carried.{fault_at, refusal_at, refused, told_at}
+use Rattle.amr_gateway.proofs.Carried.{fault_at, refusal_at, refused, same_at, told_at}
 use Rattle.amr_gateway.proofs.Offered.{accepts}
 use Rattle.amr_gateway.proofs.Plans.{channels_within, takes_at}
 use Rattle.amr_gateway.proofs.Texts.{gained, gained_part}
@@ -36,7 +36,7 @@ pub returns-in-Ok-clause-offered : goal.returns-in-Ok-clause-offered
 returns-in-Ok-clause-offered g c =
     let x = heard c.args.rtp.now c.args.payload.now in
     let v = c.args.receiver.now in
-    let new = c.in-Ok.ensures.taken in
+    let new = c.in-Ok.ensures.answer in
     record {
       of_session = tt;
       stands = new.stands;
@@ -57,7 +57,7 @@ returns-in-Ok-clause-offered g c =
 
 pub returns-in-Err-BlockFault-clause-part : goal.returns-in-Err-BlockFault-clause-part
 returns-in-Err-BlockFault-clause-part g c =
-    let failed = fault_at c.in-Err-BlockFault.field-0 _ c.in-Err-BlockFault.field-0-is c.in-Err-BlockFault.ensures.failed in
+    let failed = fault_at _ _ _ _ _ _ c.in-Err-BlockFault.field-0 c.in-Err-BlockFault.field-0-is c.in-Err-BlockFault.ensures.answer in
     record {
       out = λ h stands.
           told_at GainedPart g.O.Sink.got (λ (p : Plan). gone_out (rules_in p) h)
@@ -68,7 +68,7 @@ returns-in-Err-BlockFault-clause-part g c =
 
 pub returns-in-Err-BlockFault-clause-cause : goal.returns-in-Err-BlockFault-clause-cause
 returns-in-Err-BlockFault-clause-cause g c =
-    let failed = fault_at c.in-Err-BlockFault.field-0 _ c.in-Err-BlockFault.field-0-is c.in-Err-BlockFault.ensures.failed in
+    let failed = fault_at _ _ _ _ _ _ c.in-Err-BlockFault.field-0 c.in-Err-BlockFault.field-0-is c.in-Err-BlockFault.ensures.answer in
     subst (λ t. Rose (g.O.Sink.faults c.args.output.now) (g.O.Sink.faults t)) (sym (c.output-1.given.1 (sym (c.offer.ensures.same.reference ∙ c.resume-writer.ensures.same_reference))))
     (subst (λ t. Rose (g.O.Sink.faults t) (g.O.Sink.faults c.offer.new.out.sink.now)) c.resume-writer.ensures.now failed.step.cause)
 
@@ -77,4 +77,26 @@ returns-in-Err-Refused-clause-offered g c =
     refused g.O.Sink.got c.args.job.now c.args.receiver.now c.offer.new.self (heard c.args.rtp.now c.args.payload.now) c.args.output.now _
     c.resume-writer.result c.offer.new.out _ c.requires.plan c.requires.ready.unspent
     c.resume-writer.ensures.now (c.output-1.given.1 (sym (c.offer.ensures.same.reference ∙ c.resume-writer.ensures.same_reference)))
-    (refusal_at c.in-Err-Refused.field-0 _ _ c.in-Err-Refused.field-0-is c.in-Err-Refused.ensures.refused)
+    (refusal_at _ _ _ _ _ _ c.in-Err-Refused.field-0 _ c.in-Err-Refused.field-0-is c.in-Err-Refused.ensures.answer)
+
+pub returns-in-Ok-clause-same : goal.returns-in-Ok-clause-same
+returns-in-Ok-clause-same g c =
+    same_at g.O.Sink.same g.O.Sink.beside c.args.output.now _ c.resume-writer.result c.offer.new.out
+    c.resume-writer.ensures.now (c.output-1.given.1 (sym (c.offer.ensures.same.reference ∙ c.resume-writer.ensures.same_reference))) c.offer.ensures.same
+
+pub returns-in-Err-Refused-clause-same : goal.returns-in-Err-Refused-clause-same
+returns-in-Err-Refused-clause-same g c =
+    same_at g.O.Sink.same g.O.Sink.beside c.args.output.now _ c.resume-writer.result c.offer.new.out
+    c.resume-writer.ensures.now (c.output-1.given.1 (sym (c.offer.ensures.same.reference ∙ c.resume-writer.ensures.same_reference))) c.offer.ensures.same
+
+pub returns-in-Err-BlockFault-clause-same : goal.returns-in-Err-BlockFault-clause-same
+returns-in-Err-BlockFault-clause-same g c =
+    same_at g.O.Sink.same g.O.Sink.beside c.args.output.now _ c.resume-writer.result c.offer.new.out
+    c.resume-writer.ensures.now (c.output-1.given.1 (sym (c.offer.ensures.same.reference ∙ c.resume-writer.ensures.same_reference))) c.offer.ensures.same
+
+pub returns-in-Err-Refused-clause-cause : goal.returns-in-Err-Refused-clause-cause
+returns-in-Err-Refused-clause-cause g c =
+    let r = refusal_at _ _ _ _ _ _ c.in-Err-Refused.field-0 _ c.in-Err-Refused.field-0-is c.in-Err-Refused.ensures.answer in
+    ap g.O.Sink.faults
+    ((c.output-1.given.1 (sym (c.offer.ensures.same.reference ∙ c.resume-writer.ensures.same_reference))) ∙ ap (λ u. u.sink.now) r.sink
+    ∙ c.resume-writer.ensures.now)

@@ -9,13 +9,25 @@ use Rattle.amr_playout.proofs.Results.{on_err, on_err_then, on_ok_then}
 use Rattle.amr_playout.specs.Window.{held_of, rows}
 use Rattle.amr_playout.proofs.window.advance.Goals as goal
 
-pub put_held-requires-clause-room : goal.put_held-requires-clause-room
-put_held-requires-clause-room g c =
+pub put_held-requires : goal.put_held-requires
+put_held-requires g c =
     let f = facts c.args.plan.now c.requires.ring.planned in
+    let n = c.args.plan.now.profile.channels in
     let wide = f.wide in
-    let one : 1 * c.args.plan.now.profile.channels ≤ c.args.plan.now.window * c.args.plan.now.profile.channels =
-    mul-le 1 c.args.plan.now.profile.channels c.args.plan.now.window c.args.plan.now.profile.channels (omega (arith, wide)) (omega arith) in
-    omega (arith, one, c.requires.ring.capacity, c.from-channels.ensures)
+    let few = f.few in
+    let one : 1 * n ≤ c.args.plan.now.window * n = mul-le 1 n c.args.plan.now.window n (omega (arith, wide)) (omega arith) in
+    record {
+      ready = record {
+        full = record { full = c.requires.ring.full ∙ sym c.requires.ring.capacity; valid = c.requires.ring.valid };
+        few = omega (arith, few, c.from-channels.ensures);
+        room = omega (arith, one, c.requires.ring.capacity, c.from-channels.ensures);
+        takes = record {
+          ready = c.requires.sink.ready;
+          codec = c.requires.sink.codec;
+          channels = c.requires.sink.channels ∙ sym c.from-channels.ensures;
+        };
+      };
+    }
 
 pub returns-in_err-put_held-clause-part : goal.returns-in_err-put_held-clause-part
 returns-in_err-put_held-clause-part g c =

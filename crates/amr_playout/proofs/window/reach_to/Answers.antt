@@ -12,7 +12,7 @@ returns-in-None-clause-slid g c =
     let rules = rules_in c.args.plan.now in
     let before = c.args.before.now in
     let old = held_of c.args.ring.now.items in
-    let wide = (facts c.args.plan.now c.requires.ring.planned).wide in
+    let wide = (facts c.args.plan.now c.requires.ready.ringed.planned).wide in
     let first = c.requires.last.0 c.in-None.is in
     let same : (cs : List Copy) → ShowsBefore rules before old cs → out_at rules c.args.last cs ≡ out_before rules before cs =
     λ cs shows. none_goes rules before old cs c.args.last c.in-None.is wide shows in

@@ -11,7 +11,7 @@ use Rattle.amr_playout.proofs.window.slide.Goals as goal
 pub returns-in_err-advance-clause-part : goal.returns-in_err-advance-clause-part
 returns-in_err-advance-clause-part g c =
     let s = c.args.session.now in
-    let slides = slides_by c.args.plan.now s c.args.last c.from-window.result c.requires.ring.planned c.requires.inside c.requires.last.0 c.from-window.ensures in
+    let slides = slides_by c.args.plan.now s c.args.last c.from-window.result c.requires.ready.ringed.planned c.requires.ready.inside c.requires.last.0 c.from-window.ensures in
     on_err c.from_residual.result _ (λ cs shows. record {
       blocks = _;
       got = c.in_err-advance.ensures.part;
@@ -25,12 +25,12 @@ returns-clause-slid g c =
     let old = held_of c.args.ring.now.items in
     let w = c.from-window.result in
     let n = c.args.plan.now.profile.channels in
-    let inside = c.requires.inside.0 in
+    let inside = c.requires.ready.inside.0 in
     let begun = inside.0 in let low = inside.1 in let high = inside.2 in
     let up = c.requires.last.0 in
-    let f = facts c.args.plan.now c.requires.ring.planned in
+    let f = facts c.args.plan.now c.requires.ready.ringed.planned in
     let wide = f.wide in let narrow = f.narrow in
-    let slides : IsSlide rules s.horizon s.next c.args.last w n = slides_by c.args.plan.now s c.args.last w c.requires.ring.planned c.requires.inside up c.from-window.ensures in
+    let slides : IsSlide rules s.horizon s.next c.args.last w n = slides_by c.args.plan.now s c.args.last w c.requires.ready.ringed.planned c.requires.ready.inside up c.from-window.ensures in
     record {
       horizon = refl;
       inside = (

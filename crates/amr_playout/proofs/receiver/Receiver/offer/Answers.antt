@@ -1,4 +1,4 @@
-use Rattle.std.proofs.Common.{◌+◌, arith, sym, subst}
+use Rattle.std.proofs.Common.{ap, arith, sym, subst}
 use Rattle.amr_playout.proofs.Offering.{accepted_by, fails, few_gone, refuses, spent_by, takes}
 use Rattle.amr_playout.specs.declared.answers.Kept.{Kept}
 use Rattle.amr_playout.specs.Heard.{heard}
@@ -6,22 +6,22 @@ use Rattle.amr_playout.specs.Offers.{Fails, Refuses, Takes}
 use Rattle.amr_playout.specs.Receiver.{TakesPackets, View}
 use Rattle.amr_playout.proofs.receiver.Receiver.offer.Goals as goal
 
-pub returns-in-Err-clause-refused : goal.returns-in-Err-clause-refused
-returns-in-Err-clause-refused g c =
+pub returns-in-Err-clause-answer : goal.returns-in-Err-clause-answer
+returns-in-Err-clause-answer g c =
     subst (λ (o : View). Refuses o o (heard c.args.rtp.now c.args.payload.now) c.args.out.now c.args.out.now c.in-Err.why) c.self.view_is
     (refuses g.B.BlockSink c.self.inside (heard c.args.rtp.now c.args.payload.now) c.args.out.now c.args.out.now c.in-Err.why c.in-Err.ensures.declined)
 
 pub returns-in-Err-clause-same : goal.returns-in-Err-clause-same
 returns-in-Err-clause-same g c = g.met.B.BlockSink.reflexive c.args.out.now
 
-pub overflow_add-self-in-Ok-accept-2 : goal.overflow_add-self-in-Ok-accept-2
-overflow_add-self-in-Ok-accept-2 g c =
+pub with-self-inside-requires-clause-blocks : goal.with-self-inside-requires-clause-blocks
+with-self-inside-requires-clause-blocks g c =
     let a = c.in-Ok-accept.ensures.accepted in
     let ready = subst TakesPackets (sym c.self.view_is) c.requires.ready in
     let few = few_gone c.self.inside.session c.in-Ok-accept.step.session.horizon c.in-Ok-accept.step.taken.released a.rise a.none in
     let small = a.inside.1 in
     let blocks = ready.blocks in
-    record { fits = omega (arith, few, small, blocks) }
+    omega (arith, few, small, blocks)
 
 pub invariant_of-self : goal.invariant_of-self
 invariant_of-self g c =
@@ -31,37 +31,30 @@ invariant_of-self g c =
     let small = a.inside.1 in
     let blocks = ready.blocks in
     record {
-      ring = c.accept.ensures.ring;
+      ring = c.accept.ensures.stays.ringed;
       inside = a.inside;
-      few = λ e. omega (arith, few, small, blocks);
+      few = λ e. (let gone = ap (λ (k : Kept). k.blocks) c.with-self-inside.ensures in omega (arith, few, small, blocks, gone));
     }
 
 pub invariant_of-self-in-Err-accept : goal.invariant_of-self-in-Err-accept
 invariant_of-self-in-Err-accept g c = record {
-  ring = c.accept.ensures.ring;
+  ring = c.accept.ensures.stays.ringed;
   inside = c.self.invariant.inside;
   few = λ e. absurd cc;
 }
 
-pub returns-in-Ok-accept-clause-taken : goal.returns-in-Ok-accept-clause-taken
-returns-in-Ok-accept-clause-taken g c =
+pub returns-in-Ok-accept-clause-answer : goal.returns-in-Ok-accept-clause-answer
+returns-in-Ok-accept-clause-answer g c =
     let ready = subst TakesPackets (sym c.self.view_is) c.requires.ready in
     let x = heard c.args.rtp.now c.args.payload.now in
-    let old = c.self.inside.counts in
     let step = c.in-Ok-accept.step in
-    let counts : Kept = record { late = old.late + c.from.result; copies = old.copies + c.from-in-Ok-accept.result; blocks = old.blocks + step.taken.released } in
-    subst (λ (o : View). Takes g.B.BlockSink o (accepted_by c.self.inside c.accept.new.ring step counts) x c.args.out.now c.accept.new.out step.taken) c.self.view_is
-    (takes g.B.BlockSink c.self.inside x c.args.out.now c.accept.new.out c.in-Ok.place c.accept.new.ring step counts
-    c.in-Ok.ensures.seated c.in-Ok.ensures.seat c.in-Ok.ensures.reach c.in-Ok-accept.ensures.accepted c.in-Ok-accept.ensures.step ready.unspent
-    (λ i. record {
-      late = old.late + c.from.ensures i;
-      copies = old.copies + c.from-in-Ok-accept.ensures i;
-      blocks = old.blocks + step.taken.released;
-    }))
+    subst (λ (o : View). Takes g.B.BlockSink o (accepted_by c.self.inside c.accept.new.ring step c.with-self-inside.result) x c.args.out.now c.accept.new.out step.taken) c.self.view_is
+    (takes g.B.BlockSink c.self.inside x c.args.out.now c.accept.new.out c.in-Ok.place c.accept.new.ring step c.with-self-inside.result
+    c.in-Ok.ensures.seated c.in-Ok.ensures.seat c.in-Ok.ensures.reach c.in-Ok-accept.ensures.accepted c.in-Ok-accept.ensures.stays.step ready.unspent c.with-self-inside.ensures)
 
-pub returns-in-Err-accept-clause-failed : goal.returns-in-Err-accept-clause-failed
-returns-in-Err-accept-clause-failed g c =
+pub returns-in-Err-accept-clause-answer : goal.returns-in-Err-accept-clause-answer
+returns-in-Err-accept-clause-answer g c =
     let x = heard c.args.rtp.now c.args.payload.now in
     subst (λ (o : View). Fails g.B.BlockSink o (spent_by c.self.inside c.accept.new.ring c.self.inside.counts) x c.args.out.now c.accept.new.out) c.self.view_is
     (fails g.B.BlockSink c.self.inside x c.args.out.now c.accept.new.out c.in-Ok.place c.accept.new.ring _
-    c.in-Ok.ensures.seated c.in-Err-accept.ensures.part c.in-Err-accept.ensures.step)
+    c.in-Ok.ensures.seated c.in-Err-accept.ensures.part c.in-Err-accept.ensures.stays.step)
