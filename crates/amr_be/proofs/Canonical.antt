@@ -1,14 +1,17 @@
 -- The canonical octets of a bandwidth-efficient payload.
 use Rattle.std.proofs.Common.{◌≡◌, ℕ, ◌+◌, ◌*◌, ◌≤◌, Bool, false, cond, List, [], ◌∷◌, ◌++◌, length, map, take, replicate, sym, ap, ◌∙◌, arith}
 use Rattle.std.specs.List.{AllByRecursion}
-use Rattle.std.proofs.lemmas.List.{length-append, take_all, append-nil}
+use Rattle.std.proofs.lemmas.List.{length-append, length-map, take_all, append-nil}
 use Rattle.amr_bits.specs.Bits.{bits_at, filled, octets_for}
 use Rattle.amr_bits.specs.Layout.{Mark, padded, settled}
 use Rattle.amr_bits.proofs.Filled.{bits-whole, filled-front, filled-lt, gap, gap_fills, length-filled}
 use Rattle.amr_be.specs.Parts.{table_part, body_part}
 use Rattle.amr_frame.specs.declared.codec.Codec.{Codec}
 use Rattle.amr_frame.specs.declared.profile.Profile.{Profile}
+use Rattle.amr_frame.specs.Cells.{frame_of}
 use Rattle.amr_frame.specs.Frames.{Frame, IsFrame}
+use Rattle.amr_toc.specs.declared.payload.Payload.{Payload}
+use Rattle.amr_toc.specs.Payloads.{CarriesInto, meant}
 use Rattle.amr_toc.proofs.Settled.{settled_fixed, settled_padded}
 use Rattle.amr_toc.proofs.Sizes.{most_bits}
 use Rattle.payload_laws.proofs.Entries.{table_bits, table_fixed}
@@ -46,6 +49,15 @@ table_is frames = ap (map settled) (table_fixed frames) ∙ settled_fixed (table
 -- how many octets a value has
 pub length-text : (p : Profile) (v : Value) → p.octet_aligned ≡ false → length (text p v) ≡ octets_for (4 + 6 * length v.frames + length (body_part v.frames))
 length-text p v packed = ap length (text_is p v packed) ∙ length-filled (whole v) ∙ ap octets_for (length-whole v)
+
+-- a payload fits the octets that it is to be written into
+pub has_room : (p : Profile) (payload : Payload) (out : List ℕ) → p.octet_aligned ≡ false → CarriesInto p payload out
+    → 4 + 6 * length payload.cells.now + length (body_part (meant payload).frames) ≤ 8 * length out
+has_room p payload out packed h =
+    let all = length-text p (meant payload) packed in
+    let size = length-map payload.cells.now frame_of in
+    let room = h.size in
+    omega arith
 
 -- frames of a codec have at most 477 bits each
 pub body_most : (codec : Codec) (frames : List Frame) → AllByRecursion (IsFrame codec) frames → length (body_part frames) ≤ 477 * length frames

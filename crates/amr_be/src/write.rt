@@ -1,8 +1,7 @@
-ghost use Rattle.std.specs.Prelude.{◌≡◌, ◌+◌, ◌*◌, ◌^◌, ◌≤◌, ◌<◌, ◌++◌, false, length, take};
+ghost use Rattle.std.specs.Prelude.{◌≡◌, ◌+◌, ◌*◌, ◌^◌, ◌≤◌, ◌<◌, false, length};
 ghost use Rattle.amr_be.specs.Parts.{HaveTypes, body_part, table_part};
-ghost use Rattle.amr_bits.specs.Bits.{filled, octets_for};
-ghost use Rattle.amr_bits.specs.Written.{front};
 ghost use Rattle.amr_frame.specs.Blocks.{frames_of};
+ghost use Rattle.amr_toc.specs.Behind.{WrittenBehind};
 ghost use Rattle.amr_toc.specs.Payloads.{Carries, CarriesInto, IsSize, meant};
 ghost use Rattle.spec_payload.specs.Grammar.{text};
 
@@ -53,8 +52,8 @@ fn put_table(cells: &[Cell], at: &mut BitWriter, out: &mut [u8])
     requires fits { at.old.written + 6 * length cells.now ≤ 8 * length out.old }
     requires counts { at.old.written + 6 * length cells.now < 2 ^ 64 }
     ensures written { at.new.written ≡ at.old.written + 6 * length cells.now }
-    ensures bits { front out.new at.new.written
-        ≡ front out.old at.old.written ++ table_part (frames_of cells.now) }
+    ensures text { WrittenBehind out.old at.old.written (table_part (frames_of cells.now)) out.new
+        at.new.written }
 {
     for k in 0..cells.len() {
         let cell = &cells[k];
@@ -72,10 +71,8 @@ fn put_bodies(cells: &[Cell], at: &mut BitWriter, out: &mut [u8])
     requires fits { at.old.written + length (body_part (frames_of cells.now)) ≤ 8 * length out.old }
     requires counts { at.old.written + length (body_part (frames_of cells.now)) < 2 ^ 64 }
     ensures written { at.new.written ≡ at.old.written + length (body_part (frames_of cells.now)) }
-    ensures bits { front out.new at.new.written
-        ≡ front out.old at.old.written ++ body_part (frames_of cells.now) }
-    ensures filled { take (octets_for at.new.written) out.new
-        ≡ filled (front out.new at.new.written) }
+    ensures text { WrittenBehind out.old at.old.written (body_part (frames_of cells.now)) out.new
+        at.new.written }
 {
     for cell in cells {
         at.put_bits(out, cell.bits.as_bits());

@@ -13,11 +13,14 @@ use Rattle.amr_bits.proofs.Filled.{octet_of, filled-front, gap, length-filled}
 use Rattle.amr_bits.proofs.Runs.{run-all, run-is_part, run-octet}
 use Rattle.amr_frame.specs.declared.codec.Codec.{Codec}
 use Rattle.amr_frame.specs.declared.profile.Profile.{Profile}
+use Rattle.amr_frame.specs.Cells.{frame_of}
 use Rattle.amr_frame.specs.Frames.{Frame, IsFrame, no_data}
 use Rattle.amr_frame.specs.Profiles.{group_bound}
 use Rattle.amr_guard.proofs.Rows.{length-robust}
 use Rattle.amr_oa.specs.Written.{interleaving_part, header_part, entry_octet, table_part, checks_part, frame_part, plain_part, row_part, longest_of, sorted_part, body_part, written_as}
 use Rattle.amr_toc.proofs.EntryBits.{wide}
+use Rattle.amr_toc.specs.declared.payload.Payload.{Payload}
+use Rattle.amr_toc.specs.Payloads.{CarriesInto, meant}
 use Rattle.amr_toc.proofs.Settled.{settled_fixed, settled_padded, bits_of_filled}
 use Rattle.payload_laws.proofs.Marks.{length-bits_of}
 use Rattle.spec_payload.specs.Grammar.{text, layout, aligned_layout, packed_layout, interleaving_octet, table, entry, octet_at, check_of, checked}
@@ -249,6 +252,17 @@ length-text p v aligned h =
     let x = length-bits_of w in
     let octets : octets_for (length (bits_of w)) ≡ length w = omega arith in
     ap length (text_is p v aligned h) ∙ length-filled (bits_of w) ∙ octets ∙ length-written p v
+
+-- a payload is as long as the octets that it is to be written into
+pub has_room : (p : Profile) (payload : Payload) (out : List ℕ) → p.octet_aligned ≡ true → CarriesInto p payload out
+    → length out ≡ cond (is_some p.interleaving) 2 1 + length payload.cells.now
+    + length (checks_part p (meant payload).frames) + length (body_part p.sorting (meant payload).frames)
+has_room p payload out aligned h =
+    let all = length-text p (meant payload) aligned h.carried.value in
+    let size = length-map payload.cells.now frame_of in
+    let body = length-body p.sorting (meant payload).frames in
+    let room = h.size in
+    omega arith
 
 -- octets that have these bits
 below : (octets : List ℕ) → AreOctets octets → (k : ℕ) → get_or octets k 0 < 256

@@ -1,6 +1,6 @@
 use crate::read_oa;
 use amr_frame::{Codec, Profile, octets_of};
-use amr_toc::PayloadRefusal;
+use amr_toc::{PayloadRefusal, PayloadView};
 
 // An octet-aligned format of AMR.
 fn aligned(channels: u8, crc: bool, sorting: bool, interleaving: Option<u16>) -> Profile {
@@ -26,17 +26,20 @@ fn refusal(profile: &Profile, octets: &[u8]) -> Option<PayloadRefusal> {
     }
 }
 
-// The codec mode request, the blocks, the stride and the index.
-fn shape(profile: &Profile, octets: &[u8]) -> Option<(u8, usize, u8, u8)> {
+// The view of octets that aren't refused.
+fn view<'a>(profile: &Profile, octets: &'a [u8]) -> Option<PayloadView<'a>> {
     if !profile.octet_aligned {
         return None;
     }
     if let Err(_) = profile.check() {
         return None;
     }
-    let Ok(view) = read_oa(profile, octets) else {
-        return None;
-    };
+    read_oa(profile, octets).ok()
+}
+
+// The codec mode request, the blocks, the stride and the index.
+fn shape(profile: &Profile, octets: &[u8]) -> Option<(u8, usize, u8, u8)> {
+    let view = view(profile, octets)?;
     Some((view.cmr(), view.blocks(), view.stride(), view.index()))
 }
 
@@ -48,15 +51,7 @@ fn frame(
     at: usize,
     octet: usize,
 ) -> Option<(u8, bool, usize, u8, u8)> {
-    if !profile.octet_aligned {
-        return None;
-    }
-    if let Err(_) = profile.check() {
-        return None;
-    }
-    let Ok(view) = read_oa(profile, octets) else {
-        return None;
-    };
+    let view = view(profile, octets)?;
     if at >= view.frames() || octet >= 60 {
         return None;
     }
@@ -76,15 +71,7 @@ fn frame(
 
 // Whether frame `at` is damaged, Q of its entry, and whether its bits are lent.
 fn marks(profile: &Profile, octets: &[u8], at: usize) -> Option<(bool, bool, bool)> {
-    if !profile.octet_aligned {
-        return None;
-    }
-    if let Err(_) = profile.check() {
-        return None;
-    }
-    let Ok(view) = read_oa(profile, octets) else {
-        return None;
-    };
+    let view = view(profile, octets)?;
     if at >= view.frames() {
         return None;
     }

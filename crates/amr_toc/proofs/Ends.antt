@@ -9,12 +9,19 @@ use Rattle.amr_frame.specs.Tables.{is_reserved}
 use Rattle.spec_payload.specs.declared.refusal.PayloadRefusal.{PayloadRefusal}
 use Rattle.spec_payload.specs.declared.refusal.PayloadRefusal.TheVariants as why
 use Rattle.payload_laws.proofs.Ranges.{find_from}
+use Rattle.payload_laws.proofs.Rules.{stopped}
 use Rattle.amr_toc.specs.Table.{more_of, type_of, fault_of, ends_at, last_of}
 use Rattle.amr_frame.proofs.FirstLemmas.{or_true, third}
 
 -- the last entry is the first that ends the table
 pub last_is : (p : Profile) (width : ℕ) (bits : List Bool) (k : ℕ) → k < p.max_blocks * p.channels + 1 → ((j : ℕ) → j < k → ends_at p width bits j ≡ false) → ends_at p width bits k ≡ true → last_of p width bits ≡ k
 last_is p width bits k h none hit = ap (λ (o : Option ℕ). unwrap_or o 0) (find_from (ends_at p width bits) 0 (p.max_blocks * p.channels + 1) k (omega arith) (omega arith) (λ j l x. none j x) hit)
+
+-- an entry with F = 0 ends it
+pub last_at_stop : (p : Profile) (width : ℕ) (bits : List Bool) (k : ℕ) → k < p.max_blocks * p.channels + 1
+    → ((j : ℕ) → j < k → ends_at p width bits j ≡ false) → more_of width bits k ≡ false → last_of p width bits ≡ k
+last_at_stop p width bits k h none e =
+    last_is p width bits k h none (stopped (fault_of p width bits k) (more_of width bits k) e)
 
 -- a fault ends it
 pub fault_ends : (o : Option PayloadRefusal) (b : Bool) (r : PayloadRefusal) → o ≡ Some r → (is_some o || not b) ≡ true

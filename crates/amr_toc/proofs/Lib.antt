@@ -3,6 +3,7 @@ pub mod CheckPlaces
 pub mod Ends
 pub mod EntryBits
 pub mod InPayload
+pub mod InView
 pub mod Filling
 pub mod Marked
 pub mod Orders

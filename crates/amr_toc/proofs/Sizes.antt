@@ -66,6 +66,18 @@ bits_to codec es k = ap sum (ap (map (bits_in codec)) (take-map (λ (e : Entry).
 pub octets_to : (codec : Codec) (es : List Entry) (k : ℕ) → sum (take k (map (octets_in codec) (types_of es))) ≡ sum_by (λ (e : Entry). octets_in codec e.ft) (take k es)
 octets_to codec es k = ap sum (ap (take k) (map-map (octets_in codec) (λ (e : Entry). e.ft) es) ∙ take-map (λ (e : Entry). octets_in codec e.ft) k es) ∙ sum-map (λ (e : Entry). octets_in codec e.ft) (take k es)
 
+-- what a walk over the entries before one has summed, where it is done
+pub summed : (f : Entry → ℕ) (toc : Toc) (k at total : ℕ) → total ≡ sum_by f (take k (listed toc)) → k ≡ at
+    → total ≡ sum_by f (take at (listed toc))
+summed f toc k at total e done = e ∙ ap (λ n. sum_by f (take n (listed toc))) done
+
+-- the entries before one are few
+pub few_entries : (toc : Toc) (k : ℕ) → k ≤ length (listed toc) → k ≤ 384
+few_entries toc k h =
+    let most = toc.most in
+    let count = listed_count toc in
+    omega arith
+
 -- the entries that pass a test, by types
 pub passing_to : (q : ℕ → Bool) (es : List Entry) (k : ℕ) → length (filter q (take k (types_of es))) ≡ count_by (λ (e : Entry). q e.ft) (take k es)
 passing_to q es k = ap (λ ts. length (filter q ts)) (take-map (λ (e : Entry). e.ft) k es) ∙ alike (take k es)

@@ -15,7 +15,7 @@ use Rattle.payload_laws.proofs.Formats.{plain, plain_of, plain_is}
 use Rattle.payload_laws.proofs.Ranges.{map_moved}
 use Rattle.spec_payload.specs.Reading.{entries, entry_start, types, frame_bit, value_at, payload_refusal, checks_start, checks_count, is_place}
 use Rattle.spec_payload.specs.RobustOrder.{order, robust_order}
-use Rattle.amr_guard.specs.Sorting.{IsOctet, robust_place}
+use Rattle.amr_guard.specs.Sorting.{robust_place}
 use Rattle.amr_toc.specs.Places.{sizes_in, body_bit, bits_to, octet_place}
 use Rattle.payload_laws.proofs.Rules.{good}
 use Rattle.amr_toc.proofs.InPayload.{map_alike}
@@ -181,9 +181,6 @@ count_at p octets es counts k e is h =
     let m = entries_are p octets es e in
     let n : length counts ≡ length fts = ap length lens ∙ length-map fts (octets_in p.codec) in
     (omega arith, ap (λ ls. get_or ls k 0) lens ∙ octets_are p fts k (omega arith))
-
-pub is_octet : (p : Profile) (octets : List ℕ) (es : List Entry) (counts : List ℕ) (k o : ℕ) → es ≡ toc_at p octets → counts ≡ sizes_in p (types_of es) → k < length es → o < octets_in p.codec (get_or (types p octets) k 0) → IsOctet counts k o
-is_octet p octets es counts k o e is h below = let c = count_at p octets es counts k e is h in (c.0, subst (λ n. o < n) (sym c.1) below)
 
 -- the bits of octet o of frame k of an octet-aligned payload
 pub standing_bit : (p : Profile) (octets : List ℕ) (k o i value : ℕ) → p.octet_aligned ≡ true → k < entries p octets → i < 8 → 8 * o + i < length (get_or (value_at p octets).frames k no_data).bits

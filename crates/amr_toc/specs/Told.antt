@@ -38,8 +38,9 @@ read_of (Ok view) = Ok (viewed view)
 read_of (Err why) = Err why
 
 -- what a reader of payloads promises of its answer: the view is one of these octets in this format
--- and shows what they say, or the first rule that they break is told; and octets are read as a value
--- exactly where the grammar has them with this value, as it is seen, so that they have one at most
+-- and shows what they say, or the first rule that they break is told; and octets are read as a
+-- value exactly where the grammar has them with this value, as it is seen, so that they have one at
+-- most
 pub record Reads (p : Profile) (octets : List ℕ) (answer : Result PayloadView PayloadRefusal)
     : Type 0 where
   pub value : IfOk answer (λ view. IsRead p octets (viewed view))

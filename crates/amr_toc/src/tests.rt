@@ -1,6 +1,6 @@
 ghost use Rattle.std.specs.Prelude.{◌≡◌, ◌≤◌, ◌⊎◌, length};
 
-use crate::{Entry, PayloadRefusal, read_toc, write_toc};
+use crate::{Entry, PayloadRefusal, Toc, read_toc, write_toc};
 use amr_bits::{BitSlice, BitWriter};
 use amr_frame::{Codec, Profile};
 
@@ -31,18 +31,24 @@ fn refusal(channels: u8, max_blocks: u8, width: u32, octets: &[u8]) -> Option<Pa
     }
 }
 
+// The table at the front of octets, in payloads of one channel.
+fn table(codec: Codec, width: u32, octets: &[u8]) -> Option<Toc<'_>>
+    requires width { (width ≡ 6) ⊎ (width ≡ 8) }
+    requires short { length octets.now ≤ 8 }
+{
+    let profile = Profile::plain(codec, 1);
+    if let Err(_) = profile.check() {
+        return None;
+    }
+    read_toc(&profile, all_bits(octets), width).ok()
+}
+
 // The type and Q of an entry of the table at the front of octets.
 fn entry(width: u32, octets: &[u8], at: usize) -> Option<(u8, bool)>
     requires width { (width ≡ 6) ⊎ (width ≡ 8) }
     requires short { length octets.now ≤ 8 }
 {
-    let profile = Profile::plain(Codec::AmrWb, 1);
-    if let Err(_) = profile.check() {
-        return None;
-    }
-    let Ok(toc) = read_toc(&profile, all_bits(octets), width) else {
-        return None;
-    };
+    let toc = table(Codec::AmrWb, width, octets)?;
     if at >= toc.len() {
         return None;
     }
@@ -55,13 +61,7 @@ fn written(width: u32, octets: &[u8]) -> Option<([u8; 5], usize)>
     requires width { (width ≡ 6) ⊎ (width ≡ 8) }
     requires short { length octets.now ≤ 8 }
 {
-    let profile = Profile::plain(Codec::Amr, 1);
-    if let Err(_) = profile.check() {
-        return None;
-    }
-    let Ok(toc) = read_toc(&profile, all_bits(octets), width) else {
-        return None;
-    };
+    let toc = table(Codec::Amr, width, octets)?;
     if toc.len() > 4 {
         return None;
     }

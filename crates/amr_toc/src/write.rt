@@ -1,6 +1,5 @@
-ghost use Rattle.std.specs.Prelude.{◌≡◌, ◌+◌, ◌*◌, ◌^◌, ◌≤◌, ◌<◌, ◌++◌, ◌⊎◌, drop, length, take};
-ghost use Rattle.amr_bits.specs.Bits.{filled, octets_for};
-ghost use Rattle.amr_bits.specs.Written.{front};
+ghost use Rattle.std.specs.Prelude.{◌≡◌, ◌+◌, ◌*◌, ◌^◌, ◌≤◌, ◌<◌, ◌⊎◌, length};
+ghost use Rattle.amr_toc.specs.Behind.{WrittenBehind};
 ghost use Rattle.amr_toc.specs.Entries.{HasTypes, entry_text, table_text};
 
 use crate::entry::Entry;
@@ -17,12 +16,8 @@ pub fn write_toc(entries: &[Entry], width: u32, at: &mut BitWriter, out: &mut [u
     requires fits { at.old.written + width * length entries.now ≤ 8 * length out.old }
     requires counts { at.old.written + width * length entries.now < 2 ^ 64 }
     ensures written { at.new.written ≡ at.old.written + width * length entries.now }
-    ensures bits { front out.new at.new.written
-        ≡ front out.old at.old.written ++ table_text width entries.now }
-    ensures filled { take (octets_for at.new.written) out.new
-        ≡ filled (front out.new at.new.written) }
-    ensures later { drop (octets_for at.new.written) out.new
-        ≡ drop (octets_for at.new.written) out.old }
+    ensures text { WrittenBehind out.old at.old.written (table_text width entries.now) out.new
+        at.new.written }
 {
     for k in 0..entries.len() {
         put_entry(entries[k], k + 1 < entries.len(), width, at, out);
@@ -37,12 +32,8 @@ pub fn put_entry(entry: Entry, more: bool, width: u32, at: &mut BitWriter, out: 
     requires fits { at.old.written + width ≤ 8 * length out.old }
     requires counts { at.old.written + width < 2 ^ 64 }
     ensures written { at.new.written ≡ at.old.written + width }
-    ensures bits { front out.new at.new.written
-        ≡ front out.old at.old.written ++ entry_text width entry more }
-    ensures filled { take (octets_for at.new.written) out.new
-        ≡ filled (front out.new at.new.written) }
-    ensures later { drop (octets_for at.new.written) out.new
-        ≡ drop (octets_for at.new.written) out.old }
+    ensures text { WrittenBehind out.old at.old.written (entry_text width entry more) out.new
+        at.new.written }
 {
     let bits = 32 * more as u32 + 2 * entry.ft as u32 + entry.q as u32;
     at.put(out, bits << (width - 6), width);

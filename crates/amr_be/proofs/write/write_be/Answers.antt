@@ -1,7 +1,7 @@
 use Rattle.std.proofs.Common.{◌≡◌, ℕ, ◌+◌, ◌*◌, ◌++◌, length, sym, ap, ◌∙◌, arith}
 use Rattle.std.proofs.lemmas.List.{length-map, append_assoc, take_all}
 use Rattle.amr_be.specs.Parts.{body_part, table_part}
-use Rattle.amr_be.proofs.Canonical.{length-text, text_is, table_is, body_most}
+use Rattle.amr_be.proofs.Canonical.{body_most, has_room, length-text, table_is, text_is}
 use Rattle.amr_be.proofs.Counts.{types}
 use Rattle.amr_toc.proofs.Carried.{few}
 use Rattle.amr_bits.specs.Bits.{nat, filled, octets_for}
@@ -17,24 +17,13 @@ put_table-requires-clause-types c = types c.args.profile.now c.args.payload.now 
 
 pub put_table-requires-clause-fits : goal.put_table-requires-clause-fits
 put_table-requires-clause-fits c =
-    let cells = c.args.payload.now.cells.now in
-    let all = length-text c.args.profile.now (meant c.args.payload.now) c.requires.packed in
-    let size = length-map cells frame_of in
-    let out = c.requires.payload.size in
-    let zero_is = c.new-at.ensures in
-    let four = c.put.ensures.written in
-    omega arith
+    let room = has_room c.args.profile.now c.args.payload.now c.args.out.now c.requires.packed c.requires.payload in
+    omega (arith, room, c.new-at.ensures, c.put.ensures.written)
 
 pub put_bodies-requires-clause-fits : goal.put_bodies-requires-clause-fits
 put_bodies-requires-clause-fits c =
-    let cells = c.args.payload.now.cells.now in
-    let all = length-text c.args.profile.now (meant c.args.payload.now) c.requires.packed in
-    let size = length-map cells frame_of in
-    let out = c.requires.payload.size in
-    let zero_is = c.new-at.ensures in
-    let four = c.put.ensures.written in
-    let table = c.put_table.ensures.written in
-    omega arith
+    let room = has_room c.args.profile.now c.args.payload.now c.args.out.now c.requires.packed c.requires.payload in
+    omega (arith, room, c.new-at.ensures, c.put.ensures.written, c.put_table.ensures.written)
 
 pub put_bodies-requires-clause-counts : goal.put_bodies-requires-clause-counts
 put_bodies-requires-clause-counts c =
@@ -59,8 +48,8 @@ returns c =
     let w = c.put_bodies.new.at.written in
     let request : front c.put.new.out c.put.new.self.written ≡ nat 4 v.cmr = c.put.ensures.bits ∙ ap (λ (n : ℕ). front c.args.out.now n ++ nat 4 v.cmr) c.new-at.ensures in
     let all : front now w ≡ whole v =
-    c.put_bodies.ensures.bits
-    ∙ ap (λ xs. xs ++ body) (c.put_table.ensures.bits ∙ (λ i. request i ++ table_is v.frames i))
+    c.put_bodies.ensures.text.bits
+    ∙ ap (λ xs. xs ++ body) (c.put_table.ensures.text.bits ∙ (λ i. request i ++ table_is v.frames i))
     ∙ append_assoc (nat 4 v.cmr) _ body in
     let size = length-map cells frame_of in
     let zero_is = c.new-at.ensures in
@@ -70,4 +59,5 @@ returns c =
     let out = c.requires.payload.size ∙ length-text p v c.requires.packed in
     let whole_size : w ≡ 4 + 6 * length v.frames + length body = omega arith in
     let count : octets_for w ≡ length c.args.out.now = ap octets_for whole_size ∙ sym out in
-    sym (take_all (octets_for w) now (omega arith)) ∙ c.put_bodies.ensures.filled ∙ ap filled all ∙ sym (text_is p v c.requires.packed)
+    sym (take_all (octets_for w) now (omega arith)) ∙ c.put_bodies.ensures.text.zeros ∙ ap filled all ∙ sym
+    (text_is p v c.requires.packed)

@@ -2,8 +2,8 @@ use Rattle.std.proofs.Common.{◌≡◌, ◌*◌, ◌+◌, false, true, ap, sym,
 use borrow.Author.Count.{below_more}
 use Rattle.amr_bits.specs.Runs.{run}
 use Rattle.amr_toc.specs.Table.{ends_at, fault_of, more_of}
-use Rattle.amr_toc.proofs.Ends.{last_is, fault_ends, ends_at_most}
-use Rattle.payload_laws.proofs.Rules.{going, stopped}
+use Rattle.amr_toc.proofs.Ends.{last_is, last_at_stop, fault_ends, ends_at_most}
+use Rattle.payload_laws.proofs.Rules.{going}
 use Rattle.amr_toc.proofs.read.count_entries.Goals as goal
 
 pub returns-in-Some-clause-refused : goal.returns-in-Some-clause-refused
@@ -17,11 +17,10 @@ returns-in-Some-clause-refused c =
 
 pub returns-then-not-bit-clause-count : goal.returns-then-not-bit-clause-count
 returns-then-not-bit-clause-count c =
-    let p = c.args.profile.now in
-    let w = c.args.width in
     let bits = run c.args.bits in
-    let k = c.loop-at.at in
-    ap (λ n. n + 1) (sym (last_is p w bits k c.loop-at-test.true c.loop-at.invariant (stopped (fault_of p w bits k) (more_of w bits k) (c.bit.ensures.bits ∙ c.if-not-bit.true))))
+    let last = last_at_stop c.args.profile.now c.args.width bits c.loop-at.at c.loop-at-test.true c.loop-at.invariant
+    (c.bit.ensures.bits ∙ c.if-not-bit.true) in
+    ap (λ n. n + 1) (sym last)
 
 pub returns-then-not-bit-clause-table : goal.returns-then-not-bit-clause-table
 returns-then-not-bit-clause-table c =
@@ -33,10 +32,10 @@ returns-then-not-bit-clause-table c =
 pub returns-then-not-bit-clause-accepted : goal.returns-then-not-bit-clause-accepted
 returns-then-not-bit-clause-accepted c =
     let p = c.args.profile.now in
-    let w = c.args.width in
     let bits = run c.args.bits in
-    let k = c.loop-at.at in
-    ap (fault_of p w bits) (last_is p w bits k c.loop-at-test.true c.loop-at.invariant (stopped (fault_of p w bits k) (more_of w bits k) (c.bit.ensures.bits ∙ c.if-not-bit.true))) ∙ sym c.fault_at.ensures.fault ∙ c.in_default.is
+    let last = last_at_stop p c.args.width bits c.loop-at.at c.loop-at-test.true c.loop-at.invariant
+    (c.bit.ensures.bits ∙ c.if-not-bit.true) in
+    ap (fault_of p c.args.width bits) last ∙ sym c.fault_at.ensures.fault ∙ c.in_default.is
 
 pub loop-at-preserved : goal.loop-at-preserved
 loop-at-preserved c =

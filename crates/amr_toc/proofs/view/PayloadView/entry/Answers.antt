@@ -3,12 +3,13 @@ use Rattle.amr_frame.specs.Frames.{Frame}
 use Rattle.amr_frame.specs.Tables.{bits_in}
 use Rattle.amr_toc.specs.declared.entry.Entry.{Entry}
 use Rattle.amr_toc.specs.Lists.{listed}
-use Rattle.amr_toc.proofs.Shown.{in_table, in_entries, entry_is, frame_is, ft_is, length_bits}
+use Rattle.amr_toc.proofs.InView.{in_listed, in_said}
+use Rattle.amr_toc.proofs.Shown.{entry_is, frame_is, ft_is, length_bits}
 use Rattle.payload_laws.proofs.Valued.{type_is}
 use Rattle.amr_toc.proofs.view.PayloadView.entry.Goals as goal
 
 pub entry-requires : goal.entry-requires
-entry-requires c = let v = c.args.self.now in in_table v.profile v.octets.now (listed v.toc) c.args.at v.table c.requires
+entry-requires c = in_listed c.args.self.now c.args.at c.requires
 
 pub returns-clause-entry : goal.returns-clause-entry
 returns-clause-entry c =
@@ -16,8 +17,9 @@ returns-clause-entry c =
     let p = v.profile in
     let octets = v.octets.now in
     let at = c.args.at in
-    let k = in_entries p octets (listed v.toc) at v.table c.requires in
-    let e = c.entry.ensures.entry ∙ entry_is p octets (listed v.toc) at c.entry.result v.table (in_table p octets (listed v.toc) at v.table c.requires) in
+    let k = in_said v at c.requires in
+    let e = c.entry.ensures.entry ∙ entry_is p octets (listed v.toc) at c.entry.result v.table
+    (in_listed v at c.requires) in
     let f = sym (frame_is p octets at k) in
     record {
       kind = record {
@@ -31,6 +33,7 @@ returns-clause-entry c =
 pub returns-clause-size : goal.returns-clause-size
 returns-clause-size c =
     let v = c.args.self.now in
-    let h = in_table v.profile v.octets.now (listed v.toc) c.args.at v.table c.requires in
-    let k = in_entries v.profile v.octets.now (listed v.toc) c.args.at v.table c.requires in
-    length_bits v.profile v.octets.now c.args.at k ∙ ap (bits_in v.profile.codec) (sym (ft_is v.profile v.octets.now (listed v.toc) c.args.at c.entry.result v.table h c.entry.ensures.entry))
+    let type = ft_is v.profile v.octets.now (listed v.toc) c.args.at c.entry.result v.table
+    (in_listed v c.args.at c.requires) c.entry.ensures.entry in
+    length_bits v.profile v.octets.now c.args.at (in_said v c.args.at c.requires) ∙ ap (bits_in v.profile.codec)
+    (sym type)

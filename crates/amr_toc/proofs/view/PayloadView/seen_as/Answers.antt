@@ -1,9 +1,8 @@
 use Rattle.std.proofs.Common.{◌≡◌, not, ap, ◌∙◌}
 use Rattle.std.specs.Prelude.{◌&&◌, Some}
 use Rattle.amr_frame.specs.Tables.{is_reserved}
-use Rattle.amr_toc.specs.Lists.{listed}
 use Rattle.amr_toc.proofs.CheckPlaces.{q_kept, q_lacks, shown_is}
-use Rattle.amr_toc.proofs.Shown.{in_entries}
+use Rattle.amr_toc.proofs.InView.{in_said}
 use Rattle.amr_toc.proofs.Valued.{known}
 use Rattle.amr_toc.proofs.view.PayloadView.seen_as.Goals as goal
 use Rattle.amr_toc.proofs.view.PayloadView.seen_as.Goals.{then-entry, else-entry}
@@ -11,13 +10,13 @@ use Rattle.amr_toc.proofs.view.PayloadView.seen_as.Goals.{then-entry, else-entry
 pub from_bits-requires-clause-not_reserved : goal.from_bits-requires-clause-not_reserved
 from_bits-requires-clause-not_reserved c =
     let v = c.args.self.now in
-    let k = in_entries v.profile v.octets.now (listed v.toc) c.args.at v.table c.requires.entry.kind.exists in
+    let k = in_said v c.args.at c.requires.entry.kind.exists in
     ap (is_reserved v.profile.codec) c.requires.entry.kind.as_said ∙ (known v.profile v.octets.now c.args.at v.accepted k).known
 
 pub returns : goal.returns
 returns c =
     let v = c.args.self.now in
-    let k = in_entries v.profile v.octets.now (listed v.toc) c.args.at v.table c.requires.entry.kind.exists in
+    let k = in_said v c.args.at c.requires.entry.kind.exists in
     let e = c.args.entry in
     let d = c.check_differs-damaged in
     let q : c.if-entry.q ≡ (e.q && not d.result) = elim c.if-entry.branch [
