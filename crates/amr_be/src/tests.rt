@@ -27,9 +27,7 @@ fn frame(
     if let Err(_) = profile.check() {
         return None;
     }
-    let Ok(view) = read_be(&profile, octets) else {
-        return None;
-    };
+    let view = read_be(&profile, octets).ok()?;
     if frame >= view.frames() || at >= 60 {
         return None;
     }

@@ -1,3 +1,6 @@
+ghost use Rattle.std.specs.Prelude.{◌≡◌, IfSome};
+ghost use Rattle.amr_toc.specs.Viewed.{format_of};
+
 use crate::read_oa;
 use amr_frame::{Codec, Profile, octets_of};
 use amr_toc::{PayloadRefusal, PayloadView};
@@ -27,7 +30,9 @@ fn refusal(profile: &Profile, octets: &[u8]) -> Option<PayloadRefusal> {
 }
 
 // The view of octets that aren't refused.
-fn view<'a>(profile: &Profile, octets: &'a [u8]) -> Option<PayloadView<'a>> {
+fn view<'a>(profile: &Profile, octets: &'a [u8]) -> Option<PayloadView<'a>>
+    ensures format { IfSome result (λ view. format_of view ≡ profile.now) }
+{
     if !profile.octet_aligned {
         return None;
     }
