@@ -1,6 +1,6 @@
 use crate::read_be;
 use amr_frame::{Codec, Profile};
-use amr_toc::PayloadRefusal;
+use amr_toc::{PayloadRefusal, PayloadView};
 
 // Why these octets are refused, of a format with so many channels and blocks.
 fn refusal(codec: Codec, channels: u8, max_blocks: u8, octets: &[u8]) -> Option<PayloadRefusal> {
@@ -15,6 +15,15 @@ fn refusal(codec: Codec, channels: u8, max_blocks: u8, octets: &[u8]) -> Option<
     }
 }
 
+// The view of octets that aren't refused, of a format with so many channels.
+fn view(codec: Codec, channels: u8, octets: &[u8]) -> Option<PayloadView<'_>> {
+    let profile = Profile::plain(codec, channels);
+    if let Err(_) = profile.check() {
+        return None;
+    }
+    read_be(&profile, octets).ok()
+}
+
 // The type, Q, number of bits, first octet and octet `at` of frame `frame`.
 fn frame(
     codec: Codec,
@@ -23,11 +32,7 @@ fn frame(
     frame: usize,
     at: usize,
 ) -> Option<(u8, bool, usize, u8, u8)> {
-    let profile = Profile::plain(codec, channels);
-    if let Err(_) = profile.check() {
-        return None;
-    }
-    let view = read_be(&profile, octets).ok()?;
+    let view = view(codec, channels, octets)?;
     if frame >= view.frames() || at >= 60 {
         return None;
     }
