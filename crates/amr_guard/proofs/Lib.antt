@@ -6,4 +6,4 @@ mod Counts
 pub mod Rows
 mod Plain
 mod Moves
-mod Turns
+mod Walks

@@ -1,5 +1,5 @@
 -- A walk over the octets in plain order: where the next ones go, and what is done.
-use Rattle.std.specs.Prelude.{◌≡◌, ℕ, ◌+◌, ◌<◌, min, nat_lt, List, length, take, slice_index, sum}
+use Rattle.std.specs.Prelude.{◌≡◌, ℕ, ◌+◌, ◌<◌, ◌≤◌, cond, min, nat_lt, List, length, take, slice_index}
 use Rattle.std.specs.List.{sum_by, count_by}
 use Rattle.amr_guard.specs.Sorting.{IsOctet, plain_place, robust_place}
 
@@ -15,11 +15,21 @@ AreNext lengths frame places =
     (length places ≡ 60)
     × ((octet : ℕ) → octet < 60 → slice_index places octet ≡ next_place lengths frame octet)
 
--- a walk stands before frame `frame`: its octets begin at `start`, and go to these places
-pub record IsBefore (lengths : List ℕ) (frame start : ℕ) (places : List ℕ) : Type 0 where
-  pub exists : frame < length lengths
-  pub begins : start ≡ sum (take frame lengths)
-  pub next : AreNext lengths frame places
+-- a walk has passed the first `octet` octets of frame `frame`, which may be all that it has: by their
+-- numbers, the next ones go to these places
+pub record StandsAt (lengths : List ℕ) (frame octet : ℕ) (places : List ℕ) : Type 0 where
+  pub passed : octet ≤ slice_index lengths frame
+  pub size : length places ≡ 60
+  pub next : (o : ℕ) → o < 60
+      → slice_index places o ≡ next_place lengths frame o + cond (nat_lt o octet) 1 0
+
+-- the octet at place `at` of the plain order stands at place `place` of the robust order
+pub record GoesTo (lengths : List ℕ) (at place : ℕ) : Type 0 where
+  pub frame : ℕ
+  pub octet : ℕ
+  pub exists : IsOctet lengths frame octet
+  pub from : plain_place lengths frame octet ≡ at
+  pub to : robust_place lengths frame octet ≡ place
 
 -- the first `done` octets of `plain` stand in `sorted` at their places of the robust order
 abbrev pub AgreeUpTo : List ℕ → List ℕ → List ℕ → ℕ → Type 0

@@ -1,10 +1,17 @@
 //! Octets of frames between plain and robust order, in time linear in them. The readers and writers of this
 //! repository look octets up in place (`sorted_place`) and don't need these; they are for other users.
-ghost use Rattle.std.specs.Prelude.{◌≡◌, ℕ, List, ◌+◌, length, sum, slice_index};
-ghost use Rattle.amr_guard.specs.Sorting.{Agree, HoldFrames, sorted_of};
-ghost use Rattle.amr_guard.specs.Walking.{AreNext, AgreeUpTo, IsBefore};
+ghost use Rattle.std.specs.Prelude.{◌≡◌, ℕ, List, ◌+◌, ◌<◌, length, sum};
+ghost use Rattle.amr_guard.specs.Sorting.{Agree, AreLengths, HoldFrames, plain_place, sorted_of};
+ghost use Rattle.amr_guard.specs.Walking.{GoesTo, StandsAt};
 
 use crate::places::row_starts;
+
+/// A walk over the octets in plain order, which has passed the first `octet` octets of frame `frame`.
+#[derive(Drop)]
+struct Walk {
+    frame: usize,
+    octet: usize,
+}
 
 /// Brings the octets `plain` of frames with these lengths, which stand frame by frame, into the
 /// robust order (RFC 4867, 4.4.4), in time linear in the octets.
@@ -14,10 +21,10 @@ pub fn sort_octets(lengths: &[u8], plain: &[u8], out: &mut [u8])
     ensures octets { Agree lengths.now plain.now out.new }
 {
     let mut places = row_starts(lengths);
-    let mut start = 0;
-    for frame in 0..lengths.len() {
-        put_frame(lengths, frame, start, &mut places, plain, out);
-        start += lengths[frame] as usize;
+    let mut walk = Walk { frame: 0, octet: 0 };
+    for at in 0..plain.len() {
+        let place = next_place(lengths, &mut walk, &mut places);
+        out[place] = plain[at];
     }
 }
 
@@ -31,54 +38,31 @@ pub fn unsort_octets(lengths: &[u8], sorted: &[u8], out: &mut [u8])
         → sorted.now ≡ sorted_of lengths.now plain → out.new ≡ plain }
 {
     let mut places = row_starts(lengths);
-    let mut start = 0;
-    for frame in 0..lengths.len() {
-        take_frame(lengths, frame, start, &mut places, sorted, out);
-        start += lengths[frame] as usize;
+    let mut walk = Walk { frame: 0, octet: 0 };
+    for at in 0..sorted.len() {
+        let place = next_place(lengths, &mut walk, &mut places);
+        out[at] = sorted[place];
     }
 }
 
-/// Puts the octets of one frame, which begin at `start`, to the next places, and moves these on.
-fn put_frame(
-    lengths: &[u8],
-    frame: usize,
-    start: usize,
-    places: &mut [usize; 60],
-    plain: &[u8],
-    out: &mut [u8],
-)
-    requires octets { HoldFrames lengths.now plain.now out.old }
-    requires before { IsBefore lengths.now frame start places.old }
-    requires done { AgreeUpTo lengths.now plain.now out.old start }
-    ensures places { AreNext lengths.now (frame + 1) places.new }
-    ensures done { AgreeUpTo lengths.now plain.now out.new (start + slice_index lengths.now frame) }
+/// The place in the robust order of the octet behind those that are passed, which is passed then.
+/// `places` has, for each octet number, the place of the next octet with that number.
+fn next_place(lengths: &[u8], walk: &mut Walk, places: &mut [usize; 60]) -> usize
+    requires lengths { AreLengths lengths.now }
+    requires stands { StandsAt lengths.now walk.old.frame walk.old.octet places.old }
+    requires more { plain_place lengths.now walk.old.frame walk.old.octet < sum lengths.now }
+    ensures place { GoesTo lengths.now (plain_place lengths.now walk.old.frame walk.old.octet)
+        result }
+    ensures stands { StandsAt lengths.now walk.new.frame walk.new.octet places.new }
+    ensures passed { plain_place lengths.now walk.new.frame walk.new.octet
+        ≡ plain_place lengths.now walk.old.frame walk.old.octet + 1 }
 {
-    for octet in 0..lengths[frame] as usize {
-        let place = places[octet];
-        out[place] = plain[start + octet];
-        places[octet] = place + 1;
+    while walk.octet == lengths[walk.frame] as usize {
+        walk.frame += 1;
+        walk.octet = 0;
     }
-}
-
-/// Takes the octets of one frame, which begin at `start`, from the next places, and moves these on.
-fn take_frame(
-    lengths: &[u8],
-    frame: usize,
-    start: usize,
-    places: &mut [usize; 60],
-    sorted: &[u8],
-    out: &mut [u8],
-)
-    requires octets { HoldFrames lengths.now out.old sorted.now }
-    requires before { IsBefore lengths.now frame start places.old }
-    requires done { AgreeUpTo lengths.now out.old sorted.now start }
-    ensures places { AreNext lengths.now (frame + 1) places.new }
-    ensures done { AgreeUpTo lengths.now out.new sorted.now
-        (start + slice_index lengths.now frame) }
-{
-    for octet in 0..lengths[frame] as usize {
-        let place = places[octet];
-        out[start + octet] = sorted[place];
-        places[octet] = place + 1;
-    }
+    let place = places[walk.octet];
+    places[walk.octet] = place + 1;
+    walk.octet += 1;
+    place
 }

@@ -1,8 +1,9 @@
-use Rattle.std.proofs.Common.{◌≡◌, length, sum, take}
-use Rattle.amr_guard.specs.Walking.{AreNext, AgreeUpTo}
+use Rattle.std.proofs.Common.{◌≡◌, length, sum}
+use Rattle.amr_guard.proofs.Walks.{Walks}
+use Rattle.amr_guard.specs.Walking.{AgreeUpTo}
 use Rattle.amr_guard.proofs.sorting.unsort_octets.Given as goal
 
-abbrev pub invariant-loop-frame : goal.invariant-loop-frame
-invariant-loop-frame l =
-    (l.start ≡ sum (take l.frame l.lengths)) × (length l.out ≡ sum l.lengths) × AreNext l.lengths l.frame l.places
-    × AgreeUpTo l.lengths l.out l.sorted l.start
+abbrev pub invariant-loop-at : goal.invariant-loop-at
+invariant-loop-at l =
+    (length l.out ≡ sum l.lengths) × Walks l.lengths l.walk.frame l.walk.octet l.places l.at × AgreeUpTo l.lengths l.out
+    l.sorted l.at
