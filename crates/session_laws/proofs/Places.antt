@@ -52,90 +52,65 @@ one_near : (z d e : ℤ) → IsNear z d → IsNear z e → d ≡ e
 one_near z d e a b = omega (arith, ints)
 
 -- d is a multiple of the ticks, and how many times
-whole_160 : (d : ℤ) → unsigned_abs d % 160 ≡ 0 → pos 160 *ℤ int_div d (pos 160) ≡ d
-whole_160 (pos n) h = omega (arith, ints)
-whole_160 (negsuc n) h = omega (arith, ints)
+whole : (codec : Codec) (d : ℤ) → unsigned_abs d % ticks codec ≡ 0 → pos (ticks codec) *ℤ int_div d (pos (ticks codec)) ≡ d
+whole Amr (pos n) h = omega (arith, ints)
+whole Amr (negsuc n) h = omega (arith, ints)
+whole AmrWb (pos n) h = omega (arith, ints)
+whole AmrWb (negsuc n) h = omega (arith, ints)
 
-times_160 : (e : ℤ) → (unsigned_abs (pos 160 *ℤ e) % 160 ≡ 0) × (int_div (pos 160 *ℤ e) (pos 160) ≡ e)
-times_160 (pos n) = (omega (arith, ints), omega (arith, ints))
-times_160 (negsuc n) = (omega (arith, ints), omega (arith, ints))
+times : (codec : Codec) (e : ℤ) → (unsigned_abs (pos (ticks codec) *ℤ e) % ticks codec ≡ 0) × (int_div (pos (ticks codec) *ℤ e) (pos (ticks codec)) ≡ e)
+times Amr (pos n) = (omega (arith, ints), omega (arith, ints))
+times Amr (negsuc n) = (omega (arith, ints), omega (arith, ints))
+times AmrWb (pos n) = (omega (arith, ints), omega (arith, ints))
+times AmrWb (negsuc n) = (omega (arith, ints), omega (arith, ints))
 
-whole_320 : (d : ℤ) → unsigned_abs d % 320 ≡ 0 → pos 320 *ℤ int_div d (pos 320) ≡ d
-whole_320 (pos n) h = omega (arith, ints)
-whole_320 (negsuc n) h = omega (arith, ints)
+-- how far a timestamp is from the horizon's, whole turns included
+abbrev ahead : Codec → ℕ → ℕ → ℤ → ℤ
+ahead codec o ts h = pos ts -ℤ (pos o +ℤ pos (ticks codec) *ℤ h)
 
-times_320 : (e : ℤ) → (unsigned_abs (pos 320 *ℤ e) % 320 ≡ 0) × (int_div (pos 320 *ℤ e) (pos 320) ≡ e)
-times_320 (pos n) = (omega (arith, ints), omega (arith, ints))
-times_320 (negsuc n) = (omega (arith, ints), omega (arith, ints))
+-- so many frame times as that is near 0 are as far as the place is from the horizon
+placed : (codec : Codec) (o ts : ℕ) (h u d : ℤ) → IsNear (ahead codec o ts h) d → pos (ticks codec) *ℤ (u -ℤ h) ≡ d
+    → IsPlaceOf (ticks codec) o ts h u
+placed Amr o ts h u d n e = let is = n.is in let low = n.low in let high = n.high in
+    record { turns = n.turns; grid = omega (arith, ints); low = omega (arith, ints); high = omega (arith, ints) }
+placed AmrWb o ts h u d n e = let is = n.is in let low = n.low in let high = n.high in
+    record { turns = n.turns; grid = omega (arith, ints); low = omega (arith, ints); high = omega (arith, ints) }
 
-found_160 : (o ts : ℕ) (h u : ℤ) → place_near 160 o ts h ≡ Some u → IsPlaceOf 160 o ts h u
-found_160 o ts h u e =
-    let z = pos ts -ℤ (pos o +ℤ pos 160 *ℤ h) in
-    let d = wrapped z in
-    let n = near z in
-    elim (eqb_tells (unsigned_abs d % 160) 0) [
-      | inl t ↦
-          let yes : Some (h +ℤ int_div d (pos 160)) ≡ Some u = ap (λ b. cond b (Some (h +ℤ int_div d (pos 160))) None) (sym t.0) ∙ e in
-          let is : h +ℤ int_div d (pos 160) ≡ u = cc in
-          let w = whole_160 d t.1 in
-          let low = n.low in let high = n.high in let ni = n.is in
-          record { turns = n.turns; grid = omega (arith, ints); low = omega (arith, ints); high = omega (arith, ints) }
-      | inr t ↦
-          let no : None ≡ Some u = ap (λ b. cond b (Some (h +ℤ int_div d (pos 160))) None) (sym t.0) ∙ e in
-          absurd cc
-    ]
+near_place : (codec : Codec) (o ts : ℕ) (h u : ℤ) → IsPlaceOf (ticks codec) o ts h u → IsNear (ahead codec o ts h) (pos (ticks codec) *ℤ (u -ℤ h))
+near_place Amr o ts h u p = let grid = p.grid in record { turns = p.turns; is = omega (arith, ints); low = p.low; high = p.high }
+near_place AmrWb o ts h u p = let grid = p.grid in record { turns = p.turns; is = omega (arith, ints); low = p.low; high = p.high }
 
-only_160 : (o ts : ℕ) (h u : ℤ) → IsPlaceOf 160 o ts h u → place_near 160 o ts h ≡ Some u
-only_160 o ts h u p =
-    let z = pos ts -ℤ (pos o +ℤ pos 160 *ℤ h) in
-    let d = wrapped z in
-    let n = near z in
-    let grid = p.grid in let low = p.low in let high = p.high in
-    let at : IsNear z (pos 160 *ℤ (u -ℤ h)) = record { turns = p.turns; is = omega (arith, ints); low = low; high = high } in
-    let same : d ≡ pos 160 *ℤ (u -ℤ h) = one_near z d (pos 160 *ℤ (u -ℤ h)) n at in
-    let t = times_160 (u -ℤ h) in
-    let zero_rest : unsigned_abs d % 160 ≡ 0 = ap (λ x. unsigned_abs x % 160) same ∙ t.0 in
-    let quot : int_div d (pos 160) ≡ u -ℤ h = ap (λ x. int_div x (pos 160)) same ∙ t.1 in
-    let back : h +ℤ int_div d (pos 160) ≡ u = omega (arith, ints) in
-    ap (λ b. cond b (Some (h +ℤ int_div d (pos 160))) None) (eq-eqb (unsigned_abs d % 160) 0 zero_rest) ∙ ap Some back
+-- a step from the horizon, and back
+stepped : (h q u : ℤ) → h +ℤ q ≡ u → u -ℤ h ≡ q
+stepped h q u e = omega (arith, ints)
 
-found_320 : (o ts : ℕ) (h u : ℤ) → place_near 320 o ts h ≡ Some u → IsPlaceOf 320 o ts h u
-found_320 o ts h u e =
-    let z = pos ts -ℤ (pos o +ℤ pos 320 *ℤ h) in
-    let d = wrapped z in
-    let n = near z in
-    elim (eqb_tells (unsigned_abs d % 320) 0) [
-      | inl t ↦
-          let yes : Some (h +ℤ int_div d (pos 320)) ≡ Some u = ap (λ b. cond b (Some (h +ℤ int_div d (pos 320))) None) (sym t.0) ∙ e in
-          let is : h +ℤ int_div d (pos 320) ≡ u = cc in
-          let w = whole_320 d t.1 in
-          let low = n.low in let high = n.high in let ni = n.is in
-          record { turns = n.turns; grid = omega (arith, ints); low = omega (arith, ints); high = omega (arith, ints) }
-      | inr t ↦
-          let no : None ≡ Some u = ap (λ b. cond b (Some (h +ℤ int_div d (pos 320))) None) (sym t.0) ∙ e in
-          absurd cc
-    ]
-
-only_320 : (o ts : ℕ) (h u : ℤ) → IsPlaceOf 320 o ts h u → place_near 320 o ts h ≡ Some u
-only_320 o ts h u p =
-    let z = pos ts -ℤ (pos o +ℤ pos 320 *ℤ h) in
-    let d = wrapped z in
-    let n = near z in
-    let grid = p.grid in let low = p.low in let high = p.high in
-    let at : IsNear z (pos 320 *ℤ (u -ℤ h)) = record { turns = p.turns; is = omega (arith, ints); low = low; high = high } in
-    let same : d ≡ pos 320 *ℤ (u -ℤ h) = one_near z d (pos 320 *ℤ (u -ℤ h)) n at in
-    let t = times_320 (u -ℤ h) in
-    let zero_rest : unsigned_abs d % 320 ≡ 0 = ap (λ x. unsigned_abs x % 320) same ∙ t.0 in
-    let quot : int_div d (pos 320) ≡ u -ℤ h = ap (λ x. int_div x (pos 320)) same ∙ t.1 in
-    let back : h +ℤ int_div d (pos 320) ≡ u = omega (arith, ints) in
-    ap (λ b. cond b (Some (h +ℤ int_div d (pos 320))) None) (eq-eqb (unsigned_abs d % 320) 0 zero_rest) ∙ ap Some back
+reached : (h u : ℤ) → h +ℤ (u -ℤ h) ≡ u
+reached h u = omega (arith, ints)
 
 -- what is computed is the place
 pub found : (codec : Codec) (o ts : ℕ) (h u : ℤ) → place_near (ticks codec) o ts h ≡ Some u → IsPlaceOf (ticks codec) o ts h u
-found Amr o ts h u e = found_160 o ts h u e
-found AmrWb o ts h u e = found_320 o ts h u e
+found codec o ts h u e =
+    let t = ticks codec in
+    let d = wrapped (ahead codec o ts h) in
+    let q = int_div d (pos t) in
+    elim (eqb_tells (unsigned_abs d % t) 0) [
+      | inl m ↦
+          let yes : Some (h +ℤ q) ≡ Some u = ap (λ b. cond b (Some (h +ℤ q)) None) (sym m.0) ∙ e in
+          let is : h +ℤ q ≡ u = cc in
+          placed codec o ts h u d (near (ahead codec o ts h)) (ap (λ k. pos t *ℤ k) (stepped h q u is) ∙ whole codec d m.1)
+      | inr m ↦
+          let no : None ≡ Some u = ap (λ b. cond b (Some (h +ℤ q)) None) (sym m.0) ∙ e in
+          absurd cc
+    ]
 
 -- the place is what is computed
 pub only : (codec : Codec) (o ts : ℕ) (h u : ℤ) → IsPlaceOf (ticks codec) o ts h u → place_near (ticks codec) o ts h ≡ Some u
-only Amr o ts h u p = only_160 o ts h u p
-only AmrWb o ts h u p = only_320 o ts h u p
+only codec o ts h u p =
+    let t = ticks codec in
+    let z = ahead codec o ts h in
+    let d = wrapped z in
+    let same : d ≡ pos t *ℤ (u -ℤ h) = one_near z d (pos t *ℤ (u -ℤ h)) (near z) (near_place codec o ts h u p) in
+    let m = times codec (u -ℤ h) in
+    let rest : unsigned_abs d % t ≡ 0 = ap (λ x. unsigned_abs x % t) same ∙ m.0 in
+    let back : h +ℤ int_div d (pos t) ≡ u = ap (λ x. h +ℤ int_div x (pos t)) same ∙ ap (λ q. h +ℤ q) m.1 ∙ reached h u in
+    ap (λ b. cond b (Some (h +ℤ int_div d (pos t))) None) (eq-eqb (unsigned_abs d % t) 0 rest) ∙ ap Some back

@@ -48,18 +48,26 @@ stored_front r blocks all f =
 pub more_packets : (r : Recording) (records more : List (List ℕ)) → packets_of r.profile r.asked (records ++ more) ≡ packets_of r.profile r.asked records ++ packets_of r.profile r.asked more
 more_packets r records more = filter_map-append (packet_of r.profile r.asked) records more
 
-pub early_front : (r : Recording) (records more : List (List ℕ)) → Front (early_of r records) (early_of r (records ++ more))
-early_front r records more =
+-- the same of the packets of a recording and of its packets with more behind them
+abbrev both : Recording → List (List ℕ) → List (List ℕ) → List Packet
+both r records more = packets_of r.profile r.asked records ++ packets_of r.profile r.asked more
+
+pub gone_on : (r : Recording) (records more : List (List ℕ)) → Front (gone_out r.rules (packets_of r.profile r.asked records)) (gone_out r.rules (both r records more))
+gone_on r records more = let h = packets_of r.profile r.asked records in gone_by r.rules h (packets_of r.profile r.asked more) (horizon r.rules h) refl
+
+pub released_on : (r : Recording) (records more : List (List ℕ)) → Front (gone_out r.rules (packets_of r.profile r.asked records)) (released r.rules (both r records more))
+released_on r records more = let h = packets_of r.profile r.asked records in released_by r.rules h (packets_of r.profile r.asked more) (horizon r.rules h) refl
+
+-- what has gone out stands in front of what is released so of more records, as it does of more packets
+front_in : (r : Recording) (records more : List (List ℕ)) (out : List Packet → List (List Frame))
+    → Front (gone_out r.rules (packets_of r.profile r.asked records)) (out (both r records more))
+    → Front (early_of r records) (storage_file r.rules.codec r.rules.channels (out (packets_of r.profile r.asked (records ++ more))))
+front_in r records more out f =
     let h = packets_of r.profile r.asked records in
-    let on = packets_of r.profile r.asked more in
-    let g = gone_by r.rules h on (horizon r.rules h) refl in
-    stored_front r (gone_out r.rules h) (gone_out r.rules (packets_of r.profile r.asked (records ++ more)))
-    (g.0, ap (gone_out r.rules) (more_packets r records more) ∙ g.1)
+    stored_front r (gone_out r.rules h) (out (packets_of r.profile r.asked (records ++ more))) (f.0, ap out (more_packets r records more) ∙ f.1)
+
+pub early_front : (r : Recording) (records more : List (List ℕ)) → Front (early_of r records) (early_of r (records ++ more))
+early_front r records more = front_in r records more (gone_out r.rules) (gone_on r records more)
 
 pub file_front : (r : Recording) (records more : List (List ℕ)) → Front (early_of r records) (file_of r (records ++ more))
-file_front r records more =
-    let h = packets_of r.profile r.asked records in
-    let on = packets_of r.profile r.asked more in
-    let g = released_by r.rules h on (horizon r.rules h) refl in
-    stored_front r (gone_out r.rules h) (released r.rules (packets_of r.profile r.asked (records ++ more)))
-    (g.0, ap (released r.rules) (more_packets r records more) ∙ g.1)
+file_front r records more = front_in r records more (released r.rules) (released_on r records more)

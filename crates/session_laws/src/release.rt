@@ -14,14 +14,16 @@ pub fn a_longer_session_keeps_the_copies()
         × AllByRecursion (Later z) later }
 {}
 
-/// What is released up to the horizon less the window stays: it is the front of what is released of every
-/// longer list of packets, and of what is released of that list up to its own horizon less the window.
+/// What is released up to the horizon less the window stays: it is the front of what is released of
+/// every longer list of packets, and of what is released of that list up to its own horizon less the
+/// window.
 pub fn what_is_released_stays()
     ensures all { (rules : Rules) (h more : List Packet) (z : ℤ) → horizon rules h ≡ Some z
         → (rest : List (List Frame))
         × (released rules (h ++ more) ≡ released_up_to rules h (z -ℤ pos rules.window) ++ rest) }
     ensures up_to { (rules : Rules) (h more : List Packet) (z z' : ℤ)
-        → horizon rules h ≡ Some z → horizon rules (h ++ more) ≡ Some z' → (rest : List (List Frame))
+        → horizon rules h ≡ Some z → horizon rules (h ++ more) ≡ Some z'
+        → (rest : List (List Frame))
         × (released_up_to rules (h ++ more) (z' -ℤ pos rules.window)
         ≡ released_up_to rules h (z -ℤ pos rules.window) ++ rest) }
 {}
