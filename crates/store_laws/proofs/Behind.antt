@@ -61,6 +61,23 @@ with_block codec channels file block us one h u n =
       whole = ap (λ m. m % channels) (length-append ws us ∙ ap (λ m. length ws + m) n) ∙ one_more (length ws) channels one r.whole;
     }
 
+-- whole blocks and more behind them: the first block, and those of the rest
+pub record OneFirst (c k : ℕ) (xs y : List Frame) : Type 0 where
+  pub alone : blocks_of c xs ≡ take c xs ∷ blocks_of c (drop c xs)
+  pub more : blocks_of c (xs ++ y) ≡ take c xs ∷ blocks_of c (drop c xs ++ y)
+  pub left : length (drop c xs) ≡ k * c
+
+pub one_first : (c k : ℕ) (xs y : List Frame) → 1 ≤ c → length xs ≡ suc k * c → OneFirst c k xs y
+one_first c k xs y one e =
+    let x = take c xs in let rest = drop c xs in
+    let long : length x ≡ c = length-take c xs ∙ omega (arith, e) in
+    record {
+      alone = ap (blocks_of c) (sym (take-append-drop c xs)) ∙ block_first c x rest one long;
+      more = ap (λ fs. blocks_of c (fs ++ y)) (sym (take-append-drop c xs)) ∙ ap (blocks_of c) (append_assoc x rest y)
+          ∙ block_first c x (rest ++ y) one long;
+      left = length-drop c xs ∙ omega (arith, e);
+    }
+
 -- a block behind whole blocks is the last of them
 last_block : (c k : ℕ) (xs y : List Frame) → 1 ≤ c → length xs ≡ k * c → length y ≡ c
     → blocks_of c (xs ++ y) ≡ blocks_of c xs ++ y ∷ []
@@ -70,13 +87,8 @@ last_block c zero [] y one e n =
     ∙ ap (λ bs. y ∷ bs) none ∙ sym (ap (λ bs. bs ++ y ∷ []) none)
 last_block c zero (x ∷ xs) y one e n = absurd (omega (arith, e))
 last_block c (suc k) xs y one e n =
-    let x = take c xs in let rest = drop c xs in
-    let lx : length x ≡ c = length-take c xs ∙ omega (arith, e) in
-    let lr : length rest ≡ k * c = length-drop c xs ∙ omega (arith, e) in
-    let first : blocks_of c xs ≡ x ∷ blocks_of c rest = ap (blocks_of c) (sym (take-append-drop c xs)) ∙ block_first c x rest one lx in
-    ap (λ fs. blocks_of c (fs ++ y)) (sym (take-append-drop c xs)) ∙ ap (blocks_of c) (append_assoc x rest y)
-    ∙ block_first c x (rest ++ y) one lx ∙ ap (λ bs. x ∷ bs) (last_block c k rest y one lr n)
-    ∙ sym (ap (λ bs. bs ++ y ∷ []) first)
+    let first = one_first c k xs y one e in
+    first.more ∙ ap (λ bs. take c xs ∷ bs) (last_block c k (drop c xs) y one first.left n) ∙ sym (ap (λ bs. bs ++ y ∷ []) first.alone)
 
 pub block_read : (codec : Codec) (channels : ℕ) (file block : List ℕ) (us : List (List ℕ)) → 1 ≤ channels
     → store_refusal codec channels file ≡ None → AreUnits codec us block → length us ≡ channels

@@ -16,8 +16,8 @@ use Rattle.amr_frame.specs.Frames.{Frame}
 use Rattle.spec_store.specs.StorageReading.{Units, units, blocks_in, blocks_of, channels_told, cut_refusal, first_reserved, frame_in, has_header, has_magic, header_len, is_unit, magic_len, may_have_magic, shown_refusal, store_refusal, unit_place, unit_type, units_in, with_octet}
 use Rattle.refusals.specs.declared.store.StoreRefusal.TheVariants as why
 use Rattle.store_laws.specs.Units.{AreUnits, IsPart}
-use Rattle.store_laws.proofs.Behind.{none_reserved, units_go_on, whole_of}
-use Rattle.store_laws.proofs.Blocked.{block_first, blocks_again}
+use Rattle.store_laws.proofs.Behind.{none_reserved, one_first, units_go_on, whole_of}
+use Rattle.store_laws.proofs.Blocked.{blocks_again}
 use Rattle.store_laws.proofs.Cutting.{all, kept, need, octets_of, state, units_hold}
 use Rattle.store_laws.proofs.Headers.{Headed, and_true, not_true}
 use Rattle.store_laws.proofs.Longer.{longer}
@@ -51,18 +51,33 @@ units_of codec channels file block rest us h u p =
     ∙ ap (λ (v : Units). fold (with_octet codec) v rest) (ap (fold (with_octet codec) (state ws [])) u.join ∙ all codec ws us u.whole)
     ∙ part_stays codec (ws ++ us) rest p
 
+-- a file has this header
+record IsHeaded (codec : Codec) (channels : ℕ) (file : List ℕ) : Type 0 where
+  has : has_header codec file ≡ true
+  magic : has_magic codec file ≡ true
+  told : nat_eq (channels_told codec file) channels ≡ true
+
+-- it has it with octets behind it too
+headed_on : (codec : Codec) (channels : ℕ) (file more : List ℕ) → store_refusal codec channels file ≡ None → IsHeaded codec channels (file ++ more)
+headed_on codec channels file more h =
+    let r = unrefused codec channels file h in
+    let l = longer codec file more r.has in
+    record {
+      has = l.headed.has;
+      magic = (and_true (has_magic codec (file ++ more)) (not (ltb (length (file ++ more)) (header_len codec (file ++ more)))) l.headed.has).0;
+      told = eq-eqb (channels_told codec (file ++ more)) channels (l.headed.told ∙ r.told);
+    }
+
 -- nothing is shown of it
 pub nothing_shown : (codec : Codec) (channels : ℕ) (file block rest : List ℕ) (us : List (List ℕ)) → store_refusal codec channels file ≡ None
     → AreUnits codec us block → IsPart codec rest → shown_refusal codec channels (file ++ (block ++ rest)) ≡ None
 nothing_shown codec channels file block rest us h u p =
     let all = file ++ (block ++ rest) in
-    let r = unrefused codec channels file h in
-    let l = longer codec file (block ++ rest) r.has in
-    let has = l.headed.has in
-    let cut = units_of codec channels file block rest us h u p in
-    let magic : has_magic codec all ≡ true = (and_true (has_magic codec all) (not (ltb (length all) (header_len codec all))) has).0 in
-    let same : nat_eq (channels_told codec all) channels ≡ true = eq-eqb (channels_told codec all) channels (l.headed.told ∙ r.told) in
-    let reserved : first_reserved codec (units_in codec all).whole ≡ None = ap (λ (v : Units). first_reserved codec v.whole) cut ∙ none_reserved codec (whole_of codec file) us r.known u.known in
+    let s = headed_on codec channels file (block ++ rest) h in
+    let has = s.has in let magic = s.magic in let same = s.told in
+    let known = none_reserved codec (whole_of codec file) us (unrefused codec channels file h).known u.known in
+    let reserved : first_reserved codec (units_in codec all).whole ≡ None =
+    ap (λ (v : Units). first_reserved codec v.whole) (units_of codec channels file block rest us h u p) ∙ known in
     let us' = (units_in codec all).whole in
     let t1 : when (not (has_magic codec all) && not (may_have_magic codec all)) why.Magic ≡ None = ap (λ v. when (not v && not (may_have_magic codec all)) why.Magic) magic in
     let t2 : when (has_header codec all && not (nat_eq (channels_told codec all) channels)) (why.Channels (channels_told codec all)) ≡ None = (λ i. when (has i && not (same i)) (why.Channels (channels_told codec all))) in
@@ -80,12 +95,8 @@ none_more : (c k : ℕ) (xs y : List Frame) → 1 ≤ c → length xs ≡ k * c 
 none_more c zero [] y one e n = few c y n ∙ sym (blocks_again c [] one tt)
 none_more c zero (x ∷ xs) y one e n = absurd (omega (arith, e))
 none_more c (suc k) xs y one e n =
-    let x = take c xs in let rest = drop c xs in
-    let lx : length x ≡ c = length-take c xs ∙ omega (arith, e) in
-    let lr : length rest ≡ k * c = length-drop c xs ∙ omega (arith, e) in
-    let first : blocks_of c xs ≡ x ∷ blocks_of c rest = ap (blocks_of c) (sym (take-append-drop c xs)) ∙ block_first c x rest one lx in
-    ap (λ fs. blocks_of c (fs ++ y)) (sym (take-append-drop c xs)) ∙ ap (blocks_of c) (append_assoc x rest y)
-    ∙ block_first c x (rest ++ y) one lx ∙ ap (λ bs. x ∷ bs) (none_more c k rest y one lr n) ∙ sym first
+    let first = one_first c k xs y one e in
+    first.more ∙ ap (λ bs. take c xs ∷ bs) (none_more c k (drop c xs) y one first.left n) ∙ sym first.alone
 
 -- the blocks of a file with less than a block behind it
 pub same_blocks : (codec : Codec) (channels : ℕ) (file block rest : List ℕ) (us : List (List ℕ)) → 1 ≤ channels → store_refusal codec channels file ≡ None
@@ -94,11 +105,10 @@ pub same_blocks : (codec : Codec) (channels : ℕ) (file block rest : List ℕ) 
 same_blocks codec channels file block rest us one h u n p =
     let all = file ++ (block ++ rest) in
     let r = unrefused codec channels file h in
-    let l = longer codec file (block ++ rest) r.has in
-    let has = l.headed.has in
+    let s = headed_on codec channels file (block ++ rest) h in
+    let has = s.has in let same = s.told in
     let ws = whole_of codec file in
     let cut = units_of codec channels file block rest us h u p in
-    let same : nat_eq (channels_told codec all) channels ≡ true = eq-eqb (channels_told codec all) channels (l.headed.told ∙ r.told) in
     let known = none_reserved codec ws us r.known u.known in
     let split = div-add-mod' (length ws) channels in
     let e = r.whole in
@@ -150,22 +160,20 @@ pub end_cuts : (codec : Codec) (channels : ℕ) (file block rest : List ℕ) (us
     ≡ first (when (ltb 0 (length rest)) (why.Truncated (length file + length block)) ∷ when (ltb 0 (length us)) (why.BlockRest (length file)) ∷ [])
 end_cuts codec channels file block rest us one h u n p =
     let all = file ++ (block ++ rest) in
-    let r = unrefused codec channels file h in
-    let l = longer codec file (block ++ rest) r.has in
-    let has = l.headed.has in
-    let ws = whole_of codec file in
     let cut = units_of codec channels file block rest us h u p in
-    let magic : has_magic codec all ≡ true = (and_true (has_magic codec all) (not (ltb (length all) (header_len codec all))) has).0 in
+    let ws = whole_of codec file in
+    let s = headed_on codec channels file (block ++ rest) h in
+    let has = s.has in let magic = s.magic in
     let count : length (units_in codec all).whole ≡ length ws + length us = ap (λ (v : Units). length v.whole) cut ∙ length-append ws us in
     let split = div-add-mod' (length ws) channels in
-    let e = r.whole in
+    let e = (unrefused codec channels file h).whole in
     let over : length (units_in codec all).whole % channels ≡ length us =
     ap (λ m. m % channels) (count ∙ (let z : length ws + length us ≡ length ws / channels * channels + length us = omega (arith, split, e) in z)) ∙ mod-mul-add (length ws / channels) channels (length us) n in
     let before : length (units_in codec all).whole - length (units_in codec all).whole % channels ≡ length ws = omega (arith, count, over) in
     let cut' : units_in codec all ≡ state ((ws ++ us) ++ []) rest = cut ∙ ap (λ zs. state zs rest) (sym (append-nil (ws ++ us))) in
     let p3 : unit_place codec all (length (units_in codec all).whole) ≡ length file + length block =
-    ap (unit_place codec all) (ap (λ (v : Units). length v.whole) cut) ∙ place_behind codec file (block ++ rest) (ws ++ us) [] rest r.has cut' ∙ behind_long codec channels file block us h u in
+    ap (unit_place codec all) (ap (λ (v : Units). length v.whole) cut) ∙ place_behind codec file (block ++ rest) (ws ++ us) [] rest (unrefused codec channels file h).has cut' ∙ behind_long codec channels file block us h u in
     let p4 : unit_place codec all (length (units_in codec all).whole - length (units_in codec all).whole % channels) ≡ length file =
-    ap (unit_place codec all) before ∙ place_behind codec file (block ++ rest) ws us rest r.has cut ∙ sym (file_long codec channels file h) in
+    ap (unit_place codec all) before ∙ place_behind codec file (block ++ rest) ws us rest (unrefused codec channels file h).has cut ∙ sym (file_long codec channels file h) in
     λ i. first (when (not (magic i)) why.Magic ∷ when (not (has i)) (why.Truncated (magic_len codec all))
     ∷ when (ltb 0 (length ((cut i).rest))) (why.Truncated (p3 i)) ∷ when (ltb 0 (over i)) (why.BlockRest (p4 i)) ∷ [])
