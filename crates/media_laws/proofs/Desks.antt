@@ -59,19 +59,22 @@ module _ (P : ℕ → Type 0) where
   of_either a b c (inl e) p q = subst P (sym e) p
   of_either a b c (inr e) p q = subst P (sym e) q
 
-  of_least : (d : ℕ) (xs : List ℕ) → P d → AllByRecursion P xs → P (fold min d xs)
-  of_least d [] p h = p
-  of_least d (x ∷ xs) p h = of_least (min d x) xs (of_either d x (min d x) (least_is d x) p h.0) h.1
-    where
-      least_is : (a b : ℕ) → (min a b ≡ a) ⊎ (min a b ≡ b)
-      least_is a b = ⊎_elim (λ l. inl (omega arith)) (λ l. inr (omega arith)) (cases_lt a b)
+  of_picked : (pick : ℕ → ℕ → ℕ) → ((a b : ℕ) → (pick a b ≡ a) ⊎ (pick a b ≡ b)) → (d : ℕ) (xs : List ℕ)
+      → P d → AllByRecursion P xs → P (fold pick d xs)
+  of_picked pick is d [] p h = p
+  of_picked pick is d (x ∷ xs) p h = of_picked pick is (pick d x) xs (of_either d x (pick d x) (is d x) p h.0) h.1
 
-  of_greatest : (d : ℕ) (xs : List ℕ) → P d → AllByRecursion P xs → P (fold max d xs)
-  of_greatest d [] p h = p
-  of_greatest d (x ∷ xs) p h = of_greatest (max d x) xs (of_either d x (max d x) (greatest_is d x) p h.0) h.1
-    where
-      greatest_is : (a b : ℕ) → (max a b ≡ a) ⊎ (max a b ≡ b)
-      greatest_is a b = ⊎_elim (λ l. inr (omega arith)) (λ l. inl (omega arith)) (cases_lt a b)
+least_is : (a b : ℕ) → (min a b ≡ a) ⊎ (min a b ≡ b)
+least_is a b = ⊎_elim (λ l. inl (omega arith)) (λ l. inr (omega arith)) (cases_lt a b)
+
+greatest_is : (a b : ℕ) → (max a b ≡ a) ⊎ (max a b ≡ b)
+greatest_is a b = ⊎_elim (λ l. inr (omega arith)) (λ l. inl (omega arith)) (cases_lt a b)
+
+of_least : (P : ℕ → Type 0) (d : ℕ) (xs : List ℕ) → P d → AllByRecursion P xs → P (fold min d xs)
+of_least P = of_picked P min least_is
+
+of_greatest : (P : ℕ → Type 0) (d : ℕ) (xs : List ℕ) → P d → AllByRecursion P xs → P (fold max d xs)
+of_greatest P = of_picked P max greatest_is
 
 -- a bound of a list and one more
 least_below : (d : ℕ) (xs : List ℕ) → (fold min d xs ≤ d) × AllByRecursion (λ x. fold min d xs ≤ x) xs

@@ -35,21 +35,9 @@ told o n = elim o [
   | Some m ↦ nat_eq m n
 ]
 
-align_read : (flag : Bool) → number_of octet_align (on flag) ≡ when flag 1
-align_read true = refl
-align_read false = refl
-
-crc_read : (flag : Bool) → number_of crc (on flag) ≡ when flag 1
-crc_read true = refl
-crc_read false = refl
-
-sorting_read : (flag : Bool) → number_of sorting (on flag) ≡ when flag 1
-sorting_read true = refl
-sorting_read false = refl
-
-neighbor_read : (flag : Bool) → number_of neighbor (on flag) ≡ when flag 1
-neighbor_read true = refl
-neighbor_read false = refl
+flag_read : (r : Row) → number_of r (on true) ≡ Some 1 → (flag : Bool) → number_of r (on flag) ≡ when flag 1
+flag_read r one true = one
+flag_read r one false = refl
 
 told_one : (flag : Bool) → told (when flag 1) 1 ≡ flag
 told_one true = refl
@@ -71,13 +59,10 @@ red_read : (o : Option ℕ) → IfSome o (λ n. n < 2 ^ 16) → number_of max_re
 red_read None h = refl
 red_read (Some n) h = trimmed_number n h
 
-period_read : (n : ℕ) (t : Bool) → n < 2 ^ 16 → nat_eq n 1 ≡ t → unwrap_or (number_of period (cond t None (Some (decimal n)))) 1 ≡ n
-period_read n true h e = sym (eqb-true n 1 e)
-period_read n false h e = ap (λ o. unwrap_or o 1) (trimmed_number n h)
-
-capability_read : (n : ℕ) (t : Bool) → n < 2 ^ 16 → nat_eq n 1 ≡ t → unwrap_or (number_of capability (cond t None (Some (decimal n)))) 1 ≡ n
-capability_read n true h e = sym (eqb-true n 1 e)
-capability_read n false h e = ap (λ o. unwrap_or o 1) (trimmed_number n h)
+one_read : (r : Row) → ((n : ℕ) → n < 2 ^ 16 → number_of r (Some (decimal n)) ≡ Some n) → (n : ℕ) (t : Bool) → n < 2 ^ 16 → nat_eq n 1 ≡ t
+    → unwrap_or (number_of r (cond t None (Some (decimal n)))) 1 ≡ n
+one_read r read n true h e = sym (eqb-true n 1 e)
+one_read r read n false h e = ap (λ o. unwrap_or o 1) (read n h)
 
 -- a set of modes is read as itself
 modes_read : (codec : Codec) (o : Option (List ℕ)) → IfSome o (IsModeSet codec) → option_map (λ text. modes_of codec (value_of text)) (option_map (spell mode_set) (option_map mode_list o)) ≡ o
@@ -90,10 +75,10 @@ modes_read codec (Some ms) h =
 
 module _ (codec : Codec) (p : Parameters) (k : AreParameters codec p) where
   crc_is : is_given crc 1 (printed_pieces p) ≡ p.crc
-  crc_is = ap (λ o. told o 1) (given_is p crc refl ∙ crc_read p.crc) ∙ told_one p.crc
+  crc_is = ap (λ o. told o 1) (given_is p crc refl ∙ flag_read crc refl p.crc) ∙ told_one p.crc
 
   sorting_is : is_given sorting 1 (printed_pieces p) ≡ p.sorting
-  sorting_is = ap (λ o. told o 1) (given_is p sorting refl ∙ sorting_read p.sorting) ∙ told_one p.sorting
+  sorting_is = ap (λ o. told o 1) (given_is p sorting refl ∙ flag_read sorting refl p.sorting) ∙ told_one p.sorting
 
   groups_are : given interleaving (printed_pieces p) ≡ p.interleaving
   groups_are = given_is p interleaving refl ∙ groups_read p.interleaving k.interleaving
@@ -107,7 +92,7 @@ module _ (codec : Codec) (p : Parameters) (k : AreParameters codec p) where
   aligned_by false false e = refl
 
   align_given : given octet_align (printed_pieces p) ≡ when p.octet_aligned 1
-  align_given = given_is p octet_align refl ∙ align_read p.octet_aligned
+  align_given = given_is p octet_align refl ∙ flag_read octet_align refl p.octet_aligned
 
   aligned_is : (is_given octet_align 1 (printed_pieces p) || asks_alignment (printed_pieces p)) ≡ p.octet_aligned
   aligned_is = (λ i. (ap (λ o. told o 1) align_given ∙ told_one p.octet_aligned) i || asked_is i) ∙ aligned_by p.octet_aligned (needs_alignment p) k.alignment
@@ -116,9 +101,9 @@ module _ (codec : Codec) (p : Parameters) (k : AreParameters codec p) where
   said = λ i. record {
     octet_aligned = aligned_is i;
     modes = (ap (option_map (λ text. modes_of codec (value_of text))) (one_found (values p) mode_set rows rows_are_rows refl) ∙ modes_read codec p.modes k.modes) i;
-    period = (ap (λ o. unwrap_or o 1) (given_is p period refl) ∙ period_read p.period (nat_eq p.period 1) (omega (arith, k.period)) refl) i;
-    capability = (ap (λ o. unwrap_or o 1) (given_is p capability refl) ∙ capability_read p.capability (nat_eq p.capability 1) (omega (arith, k.capability)) refl) i;
-    neighbor = (ap (λ o. told o 1) (given_is p neighbor refl ∙ neighbor_read p.neighbor) ∙ told_one p.neighbor) i;
+    period = (ap (λ o. unwrap_or o 1) (given_is p period refl) ∙ one_read period trimmed_number p.period (nat_eq p.period 1) (omega (arith, k.period)) refl) i;
+    capability = (ap (λ o. unwrap_or o 1) (given_is p capability refl) ∙ one_read capability trimmed_number p.capability (nat_eq p.capability 1) (omega (arith, k.capability)) refl) i;
+    neighbor = (ap (λ o. told o 1) (given_is p neighbor refl ∙ flag_read neighbor refl p.neighbor) ∙ told_one p.neighbor) i;
     crc = crc_is i;
     sorting = sorting_is i;
     interleaving = groups_are i;
