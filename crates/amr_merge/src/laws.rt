@@ -17,7 +17,8 @@ pub fn orders_by_quality()
 pub fn better_is_the_greater()
     ensures associative { (codec : Codec) (a b c : Option Frame)
         → better codec (better codec a b) c ≡ better codec a (better codec b c) }
-    ensures commutative { (codec : Codec) (a b : Option Frame) → better codec a b ≡ better codec b a }
+    ensures commutative { (codec : Codec) (a b : Option Frame)
+        → better codec a b ≡ better codec b a }
     ensures idempotent { (codec : Codec) (a : Option Frame) → better codec a a ≡ a }
     ensures absent_first { (codec : Codec) (a : Option Frame) → better codec None a ≡ a }
     ensures absent_last { (codec : Codec) (a : Option Frame) → better codec a None ≡ a }
@@ -25,6 +26,7 @@ pub fn better_is_the_greater()
 
 /// Two lists of frames have the same best where each frame of either stands in the other.
 pub fn the_same_frames_have_the_same_best()
-    ensures { (codec : Codec) (xs ys : List Frame) → AllByRecursion (λ (x : Frame). StandsIn x ys) xs
+    ensures { (codec : Codec) (xs ys : List Frame)
+        → AllByRecursion (λ (x : Frame). StandsIn x ys) xs
         → AllByRecursion (λ (y : Frame). StandsIn y xs) ys → best codec xs ≡ best codec ys }
 {}

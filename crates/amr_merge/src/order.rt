@@ -77,7 +77,8 @@ fn compare_front(a: &[u8], b: &[u8], len: usize) -> Ordering
     requires first { len ≤ 8 * length a.now }
     requires second { length b.now ≡ length a.now }
     requires clear { (k : ℕ) → len ≤ k → (bit_at a.now k ≡ false) × (bit_at b.now k ≡ false) }
-    ensures { result ≡ slice_cmp nat_cmp (numbers (bits_at a.now 0 len)) (numbers (bits_at b.now 0 len)) }
+    ensures { result
+        ≡ slice_cmp nat_cmp (numbers (bits_at a.now 0 len)) (numbers (bits_at b.now 0 len)) }
 {
     let used = len.div_ceil(8);
     compare_octets(&a[..used], &b[..used])

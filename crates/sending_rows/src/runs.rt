@@ -50,7 +50,8 @@ pub fn notes_of_runs()
         ≡ record no_counts { blocks = 5; sent = 3 } }
     ensures sent { sent_line (record no_counts { blocks = 5; sent = 3 })
         ≡ codes "blocks=5 packets=3\n" }
-    ensures converted { count_lines Converting (record no_counts { packets = 2; blocks = 4; sent = 4 })
+    ensures converted { count_lines Converting
+        (record no_counts { packets = 2; blocks = 4; sent = 4 })
         ≡ codes "packets=2 null=0 rtp=0 type=0 payload=0 place=0 late=0 copies=0 blocks=4\n"
         ++ codes "blocks=4 packets=4\n" }
     ensures t1 { file_line why.Magic ≡ codes "refused=T1\n" }

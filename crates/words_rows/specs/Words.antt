@@ -1,11 +1,12 @@
 -- The words of the worked examples of command lines.
 use Rattle.std.specs.Prelude.{◌≡◌, ℕ, Bool, false, true, nat_eq, List, [], ◌∷◌, Option, None, Some}
-use Rattle.std.specs.List.{slice_split}
+use Rattle.std.specs.List.{AllByRecursion, slice_split}
 use Rattle.amr_frame.specs.declared.codec.Codec.TheVariants.{Amr, AmrWb}
 use Rattle.amr_frame.specs.declared.profile.Profile.{Profile}
 use Rattle.spec_listing.specs.Listing.{Listing}
 use Rattle.spec_modes.specs.Desk.{DeskPlan}
 use Rattle.spec_offer.specs.Answering.{Answering}
+use Rattle.spec_offer.specs.Answers.{Wanted}
 use Rattle.spec_record.specs.Recording.{Recording}
 use Rattle.spec_run.specs.Meanings.{Meaning}
 use Rattle.spec_sending.specs.declared.plan.SendPlan.{SendPlan}
@@ -21,6 +22,10 @@ asks line = job_of (slice_split (λ o. nat_eq o 32) line)
 -- a line gives no job, or this one
 abbrev pub NoJob : List ℕ → Type 0
 NoJob line = asks line ≡ None
+
+-- none of these lines gives one
+abbrev pub NoJobs : List (List ℕ) → Type 0
+NoJobs lines = AllByRecursion NoJob lines
 
 abbrev pub Gives : List ℕ → Job → Type 0
 Gives line job = asks line ≡ Some job
@@ -42,17 +47,12 @@ wide_received = record packed {
 abbrev wide_format : Profile
 wide_format = record wide_received { crc = false; interleaving = Some 8; max_blocks = 64 }
 
+-- what the packets that are sent carry; they are groups of four, of two blocks each
+abbrev wide_packets : SendPlan
+wide_packets = record (plan wide_format) { cmr = 8; pt = 98; ssrc = 1; seq = 2; ts = 3 }
+
 abbrev pub wide_sent : SendPlan
-wide_sent = record (plan wide_format) {
-  blocks = 2;
-  length = 4;
-  skip_empty = true;
-  cmr = 8;
-  pt = 98;
-  ssrc = 1;
-  seq = 2;
-  ts = 3;
-}
+wide_sent = record wide_packets { blocks = 2; length = 4; skip_empty = true }
 
 abbrev pub wide_recording : Recording
 wide_recording =
@@ -75,19 +75,15 @@ tried count seed p window =
 abbrev pub eight : List ℕ
 eight = 0 ∷ 1 ∷ 2 ∷ 3 ∷ 4 ∷ 5 ∷ 6 ∷ 7 ∷ []
 
+-- what is wanted of AMR in one channel: these modes, CRCs and sorting or neither, and groups of at
+-- most so many blocks
+abbrev wanted_of : Bool → ℕ → List ℕ → Wanted
+wanted_of on most ms =
+    record { codec = Amr; channels = 1; modes = ms; crc = on; sorting = on; interleaving = most }
+
 -- an answer that takes these modes, anything else, and names port 9
 abbrev pub wants : List ℕ → Answering
-wants modes = record {
-  wanted = record {
-    codec = Amr;
-    channels = 1;
-    modes = modes;
-    crc = true;
-    sorting = true;
-    interleaving = 65535;
-  };
-  port = 9;
-}
+wants modes = record { wanted = wanted_of true 65535 modes; port = 9 }
 
 -- what the jobs of lines with a codec alone mean
 abbrev pub recording_means : Meaning
