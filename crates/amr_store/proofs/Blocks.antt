@@ -1,8 +1,8 @@
 -- The octets of blocks, cell by cell.
 use Rattle.std.proofs.Common.{◌≡◌, ℕ, ◌+◌, List, [], ◌∷◌, ◌++◌, take, drop, sym, ap, ◌∙◌}
-use Rattle.std.proofs.lemmas.Grind.{flat_map-append}
+use Rattle.std.proofs.lemmas.Grind.{flat_map-append, take_at_read}
 use Rattle.std.proofs.lemmas.List.{append-nil, map-append, take-append-drop}
-use Rattle.std.specs.Prelude.{◌≤◌}
+use Rattle.std.specs.Prelude.{◌≤◌, ◌<◌, get_or, length}
 use Rattle.std.specs.List.{AllByRecursion}
 use Rattle.amr_frame.specs.Frames.{IsFrame}
 use Rattle.amr_frame.specs.declared.codec.Codec.{Codec}
@@ -18,9 +18,11 @@ pub cells_more : (xs : List Cell) (x : Cell) → block_text (frames_of (xs ++ x 
 cells_more xs x = cells_both xs (x ∷ []) ∙ ap (λ t. block_text (frames_of xs) ++ t) (append-nil (frame_text (frame_of x)))
 
 -- the text of the cells before one, and the text of that one
-pub cells_next : (cells : List Cell) (i : ℕ) (x : Cell) (text : List ℕ) → take (i + 1) cells ≡ take i cells ++ x ∷ []
+pub cells_next : (cells : List Cell) (i : ℕ) (x : Cell) (text : List ℕ) → i < length cells → x ≡ get_or cells i x
     → text ≡ frame_text (frame_of x) → block_text (frames_of (take i cells)) ++ text ≡ block_text (frames_of (take (i + 1) cells))
-cells_next cells i x text more is = ap (λ t. block_text (frames_of (take i cells)) ++ t) is ∙ sym (cells_more (take i cells) x) ∙ ap (λ l. block_text (frames_of l)) (sym more)
+cells_next cells i x text within here is =
+    let more : take (i + 1) cells ≡ take i cells ++ x ∷ [] = (take_at_read cells i x within).1 ∙ ap (λ y. take i cells ++ y ∷ []) (sym here) in
+    ap (λ t. block_text (frames_of (take i cells)) ++ t) is ∙ sym (cells_more (take i cells) x) ∙ ap (λ l. block_text (frames_of l)) (sym more)
 
 -- the text of the cells up to one and of those behind it
 pub cells_split : (cells : List Cell) (i : ℕ) (text : List ℕ) → text ≡ block_text (frames_of (take i cells))

@@ -30,18 +30,23 @@ pub record SameSink {O : Type 0} (aside : O → Option (List (List ℕ × List �
   pub object : alike v.sink.now w.sink.now
   pub beside : aside w.sink.now ≡ aside v.sink.now
 
--- the sink got the octets of a block more, and the writer takes the next
-pub record WroteBlock {O : Type 0} (got : O → Option (List ℕ))
+-- the sink got octets of a block more, as `shows` says, and the writer then stands so
+pub record Wrote {O : Type 0} (got : O → Option (List ℕ))
     (aside : O → Option (List (List ℕ × List ℕ))) (alike : O → O → Type 0)
+    (shows : Option (List ℕ) → Option (List ℕ) → List ℕ → Type 0) (after : Stage)
     (v : StoreWriter O) (block : List Frame) (w : StoreWriter O) : Type 0 where
   pub same : SameSink aside alike v w
-  pub octets : Appends (got v.sink.now) (got w.sink.now) (block_text block)
-  pub stage : w.stage ≡ Open
+  pub octets : shows (got v.sink.now) (got w.sink.now) (block_text block)
+  pub stage : w.stage ≡ after
+
+-- the sink got the octets of a block more, and the writer takes the next
+abbrev pub WroteBlock : {O : Type 0} → (O → Option (List ℕ))
+    → (O → Option (List (List ℕ × List ℕ))) → (O → O → Type 0)
+    → StoreWriter O → List Frame → StoreWriter O → Type 0
+WroteBlock got aside alike v block w = Wrote got aside alike Appends Open v block w
 
 -- the sink got a front of the octets of a block more, and the writer is spent
-pub record WrotePart {O : Type 0} (got : O → Option (List ℕ))
-    (aside : O → Option (List (List ℕ × List ℕ))) (alike : O → O → Type 0)
-    (v : StoreWriter O) (block : List Frame) (w : StoreWriter O) : Type 0 where
-  pub same : SameSink aside alike v w
-  pub octets : AppendsFront (got v.sink.now) (got w.sink.now) (block_text block)
-  pub stage : w.stage ≡ Spent
+abbrev pub WrotePart : {O : Type 0} → (O → Option (List ℕ))
+    → (O → Option (List (List ℕ × List ℕ))) → (O → O → Type 0)
+    → StoreWriter O → List Frame → StoreWriter O → Type 0
+WrotePart got aside alike v block w = Wrote got aside alike AppendsFront Spent v block w

@@ -5,9 +5,11 @@ use Rattle.std.specs.Io.KnownBytes.{Appends}
 use Rattle.std.proofs.KnownBytes.{Appends-trans}
 use Rattle.amr_io.specs.declared.sink.Sink as sink
 use Rattle.amr_io.specs.declared.source.Source as source
+use Rattle.log_engine.proofs.FaultLemmas.{faults_on}
 use Rattle.log_engine.proofs.Growing.{EarlyGrows, WholeGrows}
 use Rattle.log_engine.proofs.OutLemmas.{all_written, none_waits, out_within, prefix_refl}
 use Rattle.log_engine.proofs.ProgressLemmas.{Ready, broken_turn, halted_turn}
+use Rattle.log_engine.proofs.WorksLemmas.{finished_works}
 use Rattle.log_engine.specs.Progress.{After, Halted}
 use Rattle.log_engine.specs.Puts.{Puts, PutsPart}
 use Rattle.log_engine.specs.Run.{Broke, BrokeEnding, Took}
@@ -19,9 +21,9 @@ use Rattle.rtp_packet.specs.Reading.{limit_of, rest}
 use Rattle.run_report.specs.declared.counts.Counts.{Counts}
 use Rattle.run_report.specs.declared.end.RunEnd.{RunEnd}
 use Rattle.run_report.specs.declared.end.RunEnd.TheVariants as end
-use Rattle.spec_run.specs.Flows.{Flow, read_from}
-use Rattle.spec_run.specs.LogRuns.{RecordsJob}
-use Rattle.spec_run.specs.Meanings.{IsPrefix}
+use Rattle.spec_run.specs.Flows.{FaultsOf, Flow, read_from}
+use Rattle.spec_run.specs.LogRuns.{RecordsJob, log_meaning}
+use Rattle.spec_run.specs.Meanings.{IsPrefix, Works, work_of}
 
 -- what a close put out and counted
 pub record Closed (job : RecordsJob) (got got' : Option (List ℕ)) (counts : Counts)
@@ -142,3 +144,25 @@ module _ {H A B : Type 0} (h : handler.Ghosts H) (s : source.Ghosts A) (k : sink
         part = subst (λ l. IsPrefix all.out (job.early l) ⊎ BrokeEnding job limit input l left
             halt.extra all.out) (sym same) (inr ending);
       }
+
+  -- a run that was closed did what its job means
+  pub closed_works : (first now : State H A B) (how : RunEnd) (by : H) (to : GatherSink B)
+      → After h s k first now how → how ≢ end.ReadFault → how ≢ end.WriteFault
+      → FaultsOf how (read_from s first.input now.input) (sent k first.sink now.sink)
+      → k.faults to.output.now ≡ k.faults now.sink.output.now
+      → h.job now.handler ≡ h.job first.handler → to.gather.now.waiting ≡ []
+      → ((hs : List (List ℕ)) → h.stands now.handler hs
+      → (h.counts by ≡ (h.job now.handler).counts hs)
+      × Puts (logical k.got now.sink) (logical k.got to) ((h.job now.handler).early hs)
+      ((h.job now.handler).whole hs))
+      → Works (log_meaning (limit_of first.reader) (h.job first.handler))
+      (work_of s k first.input now.input first.sink.output.now to.output.now
+      (record { end = how; counts = h.counts by }))
+  closed_works first now how by to after no_read no_write faults cause same_job none close =
+      let halt = halted_of first now how after no_write in
+      let put = closed_put first now how by to halt same_job none close in
+      let input : Flow = read_from s first.input now.input in
+      let ended = faults_on how input input (sent k first.sink now.sink) (sent k first.sink to)
+      (record { before = refl; after = refl }) (record { before = refl; after = cause }) faults in
+      finished_works (h.job first.handler) (limit_of first.reader) _ halt.packets
+      (rest now.reader) halt.extra halt.stopped no_read put.put put.counted ended

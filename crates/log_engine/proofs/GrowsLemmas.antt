@@ -4,12 +4,14 @@ use Rattle.std.specs.Prelude.{Option, Result, Ok, Err, take, OnErr}
 use Rattle.std.proofs.lemmas.Result.{on_err_weaker}
 use Rattle.std.specs.Io.KnownBytes.{Appends, Keeps}
 use Rattle.std.proofs.KnownBytes.{Appends-nil, Appends-trans, Appends-kept}
+use Rattle.amr_io.specs.Fault.{HasCause}
 use Rattle.amr_io.specs.Told.{Writes, AppendsPart}
 use Rattle.amr_io.specs.declared.sink.Sink as sink
 use Rattle.log_engine.specs.Tray.{Grows}
 use Rattle.log_engine.specs.Puts.{Puts, PutsPart}
-use Rattle.log_engine.specs.Turns.{SameSink}
+use Rattle.log_engine.specs.Turns.{HandlerStep, SameSink}
 use Rattle.log_engine.specs.declared.gather_sink.GatherSink.{GatherSink}
+use Rattle.log_engine.specs.declared.handler.RecordHandler as handler
 
 pub Grows-refl : (a : Option (List ℕ)) → Grows a a
 Grows-refl a = ([], Appends-nil a)
@@ -78,14 +80,19 @@ same_through k law s0 s1 s2 p q = record {
       q.grows;
 }
 
--- what is the same once a handler put something out and all was written
-pub flushed_same : {B : Type 0} (k : sink.Ghosts B)
+-- what stays once a handler put something out and all was written
+pub flushed_step : {H B X E : Type 0} (h : handler.Ghosts H) (k : sink.Ghosts B)
     (law : (a b c : B) → k.same a b → k.same b c → k.same a c)
-    (s0 s1 s2 : GatherSink B)
+    (by by' : H) (s0 s1 s2 : GatherSink B) (result : Result X E) → h.job by' ≡ h.job by
     → (s1.output.ghost_name ≡ s0.output.ghost_name) × k.same s0.output.now s1.output.now
     × Grows (k.got s0.output.now) (k.got s1.output.now)
-    → k.beside s1.output.now ≡ k.beside s0.output.now → SameSink k s1 s2 → SameSink k s0 s2
-flushed_same k law s0 s1 s2 same beside flushed =
+    → k.beside s1.output.now ≡ k.beside s0.output.now → SameSink k s1 s2
+    → HasCause (k.faults s0.output.now) (k.faults s2.output.now) result
+    → HandlerStep h k by by' s0 s2 result
+flushed_step h k law by by' s0 s1 s2 result job same beside flushed cause =
     let put : SameSink k s0 s1 =
     record { reference = same.0; same = same.1; beside = beside; grows = same.2 } in
-    same_through k law s0 s1 s2 put flushed
+    record {
+      steady = record { job = job; same = same_through k law s0 s1 s2 put flushed };
+      cause = cause;
+    }

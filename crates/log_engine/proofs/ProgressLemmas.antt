@@ -70,6 +70,16 @@ joined : (done last : List (List ℕ)) (p : List ℕ)
     → (done ++ last) ++ p ∷ [] ≡ done ++ (last ++ p ∷ [])
 joined done last p = append_assoc done last (p ∷ [])
 
+-- what a record put out, by the job that was begun with
+told_for : (P : List ℕ → List ℕ → Type 0) (job job' : RecordsJob) (done last : List (List ℕ))
+    (p : List ℕ) → job' ≡ job
+    → P (job'.early (done ++ last)) (job'.early ((done ++ last) ++ p ∷ []))
+    → P (job.early (done ++ last)) (job.early (done ++ (last ++ p ∷ [])))
+told_for P job job' done last p same step =
+    subst (λ l. P (job.early (done ++ last)) (job.early l)) (joined done last p)
+    (subst (λ (j : RecordsJob). P (j.early (done ++ last)) (j.early ((done ++ last) ++ p ∷ [])))
+    same step)
+
 module _ {H A B : Type 0} (h : handler.Ghosts H) (s : source.Ghosts A) (k : sink.Ghosts B) where
   -- a write of what waits, whole or in part
   moved_on : (first now : State H A B) (to : GatherSink B) → Underway h s k first now
@@ -189,24 +199,21 @@ module _ {H A B : Type 0} (h : handler.Ghosts H) (s : source.Ghosts A) (k : sink
       let got : Option (List ℕ) = k.got first.sink.output.now in
       let out : Option (List ℕ) = logical k.got now.sink in
       let out' : Option (List ℕ) = logical k.got next.sink in
-      let hs : List (List ℕ) = u.done ++ u.last in
-      let ps : List (List ℕ) = t.packet ∷ [] in
-      let is : hs ++ ps ≡ u.done ++ (u.last ++ ps) = joined u.done u.last t.packet in
-      let step = t.each hs u.stood in
-      let puts : Puts out out' (job.early hs) (job.early (hs ++ ps)) =
-      subst (λ (j : RecordsJob). Puts out out' (j.early hs) (j.early (hs ++ ps))) same_job step.1 in
-      let more = Appends-trans got out out' (job.early hs) puts.more u.progress.put puts.put in
-      let put : Appends got out' (job.early (hs ++ ps)) =
-      subst (Appends got out') (sym puts.grown) more in
-      let size = size_after first now next t.packet t.more u t.brought in
+      let step = t.each (u.done ++ u.last) u.stood in
+      let puts = told_for (Puts out out') job (h.job now.handler) u.done u.last t.came.packet
+      same_job step.1 in
+      let more = Appends-trans got out out' (job.early (u.done ++ u.last)) puts.more u.progress.put
+      puts.put in
+      let size = size_after first now next t.came.packet t.came.more u t.came.brought in
+      let is = joined u.done u.last t.came.packet in
       record {
         done = u.done;
-        last = u.last ++ ps;
+        last = u.last ++ t.came.packet ∷ [];
         stood = subst (h.stands next.handler) is step.0;
         progress = record {
-          took = took_after first now next t.packet t.more u same_limit t.brought;
-          near = near_after first now next t.packet t.more r t.brought;
-          put = subst (λ l. Appends got out' (job.early l)) is put;
+          took = took_after first now next t.came.packet t.came.more u same_limit t.came.brought;
+          near = near_after first now next t.came.packet t.came.more r t.came.brought;
+          put = subst (Appends got out') (sym puts.grown) more;
           written = wrote_on k first.sink now.sink next.sink (job.early u.done)
               u.progress.written grown;
         };
@@ -227,28 +234,24 @@ module _ {H A B : Type 0} (h : handler.Ghosts H) (s : source.Ghosts A) (k : sink
       let out : Option (List ℕ) = logical k.got now.sink in
       let out' : Option (List ℕ) = logical k.got next.sink in
       let hs : List (List ℕ) = u.done ++ u.last in
-      let ps : List (List ℕ) = t.packet ∷ [] in
-      let is : hs ++ ps ≡ u.done ++ (u.last ++ ps) = joined u.done u.last t.packet in
-      let puts : PutsPart out out' (job.early hs) (job.early (hs ++ ps)) =
-      subst (λ (j : RecordsJob). PutsPart out out' (j.early hs) (j.early (hs ++ ps))) same_job
-      (t.each hs u.stood) in
+      let ps : List (List ℕ) = t.came.packet ∷ [] in
+      let puts = told_for (PutsPart out out') job (h.job now.handler) u.done u.last t.came.packet
+      same_job (t.each hs u.stood) in
       let put : Appends got out' (job.early hs ++ puts.part) =
       Appends-trans got out out' (job.early hs) puts.part u.progress.put puts.put in
-      let whole : IsPrefix (job.early hs ++ puts.part) (job.early (u.done ++ (u.last ++ ps))) =
-      subst (λ l. IsPrefix (job.early hs ++ puts.part) (job.early l)) is puts.within in
       let w = u.progress.written in
       let all = out_within got (k.got now.sink.output.now) (k.got next.sink.output.now)
       next.sink.gather.now.waiting
       (job.early u.done) (job.early hs ++ puts.part) (job.early (u.done ++ (u.last ++ ps)))
-      w.out w.put w.begins grown put whole (grow u.done (u.last ++ ps)) in
+      w.out w.put w.begins grown put puts.within (grow u.done (u.last ++ ps)) in
       record {
         done = u.done;
         last = u.last ++ ps;
         rest = rest next.reader;
         extra = [];
         out = all.out;
-        took = took_after first now next t.packet t.more u same_limit t.brought;
-        near = omega (arith, near_after first now next t.packet t.more r t.brought);
+        took = took_after first now next t.came.packet t.came.more u same_limit t.came.brought;
+        near = omega (arith, near_after first now next t.came.packet t.came.more r t.came.brought);
         put = all.put;
         most = λ _. all.begins;
         part = inl all.within;

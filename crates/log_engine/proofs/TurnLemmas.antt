@@ -99,7 +99,7 @@ pub handled_on : {H A B : Type 0} (h : handler.Ghosts H) (s : source.Ghosts A) (
     → Handled h s k old new
 handled_on h s k old new r r' is one left unended each =
     let record_came = came s old new r r' is one left unended in
-    record { packet = packet_by r'; more = record_came.0; brought = record_came.1; each = each }
+    record { came = record { packet = packet_by r'; more = record_came.0; brought = record_came.1 }; each = each }
 
 pub handled_part_on : {H A B : Type 0} (h : handler.Ghosts H) (s : source.Ghosts A)
     (k : sink.Ghosts B) (old new : State H A B) (r r' : Result Next Failed)
@@ -110,7 +110,7 @@ pub handled_part_on : {H A B : Type 0} (h : handler.Ghosts H) (s : source.Ghosts
     → HandledPart h s k old new
 handled_part_on h s k old new r r' is one left unended each =
     let record_came = came s old new r r' is one left unended in
-    record { packet = packet_by r'; more = record_came.0; brought = record_came.1; each = each }
+    record { came = record { packet = packet_by r'; more = record_came.0; brought = record_came.1 }; each = each }
 
 -- no record came
 missed_of : {H A B : Type 0} (s : source.Ghosts A) (old new : State H A B) (how : RunEnd)

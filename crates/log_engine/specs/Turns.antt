@@ -84,26 +84,28 @@ pub record Brought (input : Flow) (old new : LogReader) (packet more : List ℕ)
   pub near : 2 + length packet + length (rest new) ≤ MOST_HELD
   pub unended : IsOpen new
 
--- a record came and was handled
-pub record Handled {H A B : Type 0} (h : handler.Ghosts H) (s : source.Ghosts A)
-    (k : sink.Ghosts B) (old new : State H A B) : Type 0 where
+-- a record came, with this packet, and these octets were read
+pub record Came {H A B : Type 0} (s : source.Ghosts A) (old new : State H A B) : Type 0 where
   pub packet : List ℕ
   pub more : List ℕ
   pub brought : Brought (read_from s old.input new.input) old.reader new.reader packet more
+
+-- a record came and was handled
+pub record Handled {H A B : Type 0} (h : handler.Ghosts H) (s : source.Ghosts A)
+    (k : sink.Ghosts B) (old new : State H A B) : Type 0 where
+  pub came : Came s old new
   pub each : (hs : List (List ℕ)) → h.stands old.handler hs
-      → h.stands new.handler (hs ++ packet ∷ [])
+      → h.stands new.handler (hs ++ came.packet ∷ [])
       × Puts (logical k.got old.sink) (logical k.got new.sink)
-      ((h.job old.handler).early hs) ((h.job old.handler).early (hs ++ packet ∷ []))
+      ((h.job old.handler).early hs) ((h.job old.handler).early (hs ++ came.packet ∷ []))
 
 -- a record came, and a write failed while it was handled
 pub record HandledPart {H A B : Type 0} (h : handler.Ghosts H) (s : source.Ghosts A)
     (k : sink.Ghosts B) (old new : State H A B) : Type 0 where
-  pub packet : List ℕ
-  pub more : List ℕ
-  pub brought : Brought (read_from s old.input new.input) old.reader new.reader packet more
+  pub came : Came s old new
   pub each : (hs : List (List ℕ)) → h.stands old.handler hs
       → PutsPart (logical k.got old.sink) (logical k.got new.sink)
-      ((h.job old.handler).early hs) ((h.job old.handler).early (hs ++ packet ∷ []))
+      ((h.job old.handler).early hs) ((h.job old.handler).early (hs ++ came.packet ∷ []))
 
 -- no record came, and nothing was handled
 pub record Missed {H A B : Type 0} (s : source.Ghosts A) (old new : State H A B) (how : RunEnd)

@@ -32,6 +32,16 @@ pub(crate) fn begin<O: Sink, H: RecordHandler>(
         result }
 {
     handler.begin(sink)?;
+    write_waiting(sink)
+}
+
+/// Writes what waits.
+fn write_waiting<O: Sink>(sink: &mut GatherSink<'_, O>) -> Result<(), Failed>
+    ensures kept { Keeps (logical O.got sink.old) (logical O.got sink.new) }
+    ensures empty { OnOk result (sink.new.gather.now.waiting ≡ []) }
+    ensures cause { HasCause (O.faults sink.old.output.now) (O.faults sink.new.output.now) result }
+    ensures same { SameSink O.Sink sink.old sink.new }
+{
     sink.flush()
 }
 
@@ -48,7 +58,7 @@ pub(crate) fn make_way<O: Sink>(
     if reader.holds_record() {
         return Ok(());
     }
-    sink.flush()
+    write_waiting(sink)
 }
 
 /// Handles the next record. Where none comes, or a write fails, it says how the run ends.
@@ -106,5 +116,5 @@ pub(crate) fn close<O: Sink, H: RecordHandler>(
         result }
 {
     handler.end(sink)?;
-    sink.flush()
+    write_waiting(sink)
 }

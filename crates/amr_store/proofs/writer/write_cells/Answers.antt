@@ -17,13 +17,7 @@ pub loop-cell-preserved : goal.loop-cell-preserved
 loop-cell-preserved g c =
     let before = c.loop-cell.invariant in
     let clauses = c.in_ok-write_whole.ensures in
-    let i = c.loop-cell.cell-index in
-    let cells = c.args.cells.now in
-    let x = c.cell-item.result in
-    let within : i < length cells = omega arith in
-    let more : take (i + 1) cells ≡ take i cells ++ x ∷ [] = (take_at_read cells i x within).1 ∙ ap (λ y. take i cells ++ y ∷ []) (sym c.cell-item.is) in
-    let text : block_text (frames_of (take i cells)) ++ take c.write_frame-count.result c.write_frame-count.new.out ≡ block_text (frames_of (take (i + 1) cells)) =
-    cells_next cells i x _ more c.write_frame-count.ensures.octets in
+    let text = cells_next c.args.cells.now c.loop-cell.cell-index c.cell-item.result _ (omega arith) c.cell-item.is c.write_frame-count.ensures.octets in
     record {
       put = subst (Appends (g.O.Sink.got c.args.sink.now) (g.O.Sink.got c.write_whole.new.sink)) text (Appends-trans _ _ _ _ _ before.put clauses.whole);
       faults = clauses.cause ∙ before.faults;
@@ -37,11 +31,7 @@ returns-in_err-write_whole-clause-part g c =
     let clauses = c.in_err-write_whole.ensures in
     let i = c.loop-cell.cell-index in
     let cells = c.args.cells.now in
-    let x = c.cell-item.result in
-    let within : i < length cells = omega arith in
-    let more : take (i + 1) cells ≡ take i cells ++ x ∷ [] = (take_at_read cells i x within).1 ∙ ap (λ y. take i cells ++ y ∷ []) (sym c.cell-item.is) in
-    let text : block_text (frames_of (take i cells)) ++ take c.write_frame-count.result c.write_frame-count.new.out ≡ block_text (frames_of (take (i + 1) cells)) =
-    cells_next cells i x _ more c.write_frame-count.ensures.octets in
+    let text = cells_next cells i c.cell-item.result _ (omega arith) c.cell-item.is c.write_frame-count.ensures.octets in
     on_err c.from_residual.result
     (subst (AppendsFront (g.O.Sink.got c.args.sink.now) (g.O.Sink.got c.write_whole.new.sink)) (cells_split cells (i + 1) _ text)
     (front_of_more _ _ _ (block_text (frames_of (drop (i + 1) cells))) (then_front _ (g.O.Sink.got c.loop-cell.sink) _ _ _ before.put (part_is_front _ _ _ clauses.part))))

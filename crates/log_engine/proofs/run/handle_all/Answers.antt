@@ -52,15 +52,15 @@ records-preserved g c =
     let kept = c.records.invariant in
     let turn = c.in_default-handle_next.ensures in
     let handled = turn.turned in
-    let went = handled.brought.went in
+    let went = handled.came.brought.went in
     let ready = ready_of g.H.RecordHandler g.I.Source g.O.Sink first now c.make_way.new.sink
     kept.under way.kept way.same.grows way.ready in
-    let size = turn_size handled.packet (rest now.reader) (rest next.reader) handled.more
-    handled.brought.joins in
+    let size = turn_size handled.came.packet (rest now.reader) (rest next.reader) handled.came.more
+    handled.came.brought.joins in
     let same = same_through g.O.Sink g.met.O.Sink.transitive in
     let before = same c.args.sink.now now.sink paused.sink kept.same way.same in
     record {
-      unended = handled.brought.unended;
+      unended = handled.came.brought.unended;
       limit = went.limit ∙ kept.limit;
       within = went.within;
       job = turn.steady.job ∙ kept.job;
@@ -76,9 +76,9 @@ records-preserved g c =
 pub records-smaller : goal.records-smaller
 records-smaller g c =
     let handled = c.in_default-handle_next.ensures.turned in
-    let went = handled.brought.went in
-    let size = turn_size handled.packet (rest c.records.reader) (rest c.handle_next.new.reader)
-    handled.more handled.brought.joins in
+    let went = handled.came.brought.went in
+    let size = turn_size handled.came.packet (rest c.records.reader) (rest c.handle_next.new.reader)
+    handled.came.more handled.came.brought.joins in
     omega (arith, went.taken, went.limit, went.within, size)
 
 pub returns-in-Err-make_way-clause-steady : goal.returns-in-Err-make_way-clause-steady

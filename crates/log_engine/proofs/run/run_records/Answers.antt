@@ -1,8 +1,8 @@
 use Rattle.std.proofs.Common.{refl}
-use Rattle.log_engine.proofs.CloseLemmas.{closed_broken, closed_put, halted_of, never_memory}
-use Rattle.log_engine.proofs.FaultLemmas.{calm_at, failed_on, faults_on}
+use Rattle.log_engine.proofs.CloseLemmas.{closed_broken, closed_works, halted_of, never_memory}
+use Rattle.log_engine.proofs.FaultLemmas.{calm_at, failed_on}
 use Rattle.log_engine.proofs.GrowsLemmas.{same_through}
-use Rattle.log_engine.proofs.WorksLemmas.{finished_works, read_works, write_works}
+use Rattle.log_engine.proofs.WorksLemmas.{read_works, write_works}
 use Rattle.log_engine.specs.Turns.{sent, state}
 use Rattle.rtp_packet.specs.Reading.{limit_of, rest}
 use Rattle.spec_run.specs.Flows.{read_from}
@@ -25,24 +25,13 @@ returns-in-WriteFault-clause-works g c =
 
 pub returns-in-Ok-clause-works : goal.returns-in-Ok-clause-works
 returns-in-Ok-clause-works g c =
-    let first = state c.args.handler.now c.args.reader.now c.args.input.now c.args.sink.now in
-    let now = state c.handle_all.new.handler c.handle_all.new.reader c.handle_all.new.input
-    c.handle_all.new.sink in
-    let how = c.handle_all.result in
     let ran = c.handle_all.ensures in
     let closed = c.in-Ok.ensures in
-    let input = read_from g.I.Source first.input now.input in
-    let output = sent g.O.Sink first.sink now.sink in
-    let halt = halted_of g.H.RecordHandler g.I.Source g.O.Sink first now how ran.after
-    c.in_default.not-WriteFault in
-    let put = closed_put g.H.RecordHandler g.I.Source g.O.Sink first now how c.close.new.handler
-    c.close.new.sink halt ran.steady.job closed.empty closed.done in
-    let faults = faults_on how input input output (sent g.O.Sink first.sink c.close.new.sink)
-    (record { before = refl; after = refl }) (record { before = refl; after = closed.step.cause })
-    ran.faults in
-    finished_works (g.H.RecordHandler.job c.args.handler.now) (limit_of c.args.reader.now) _
-    halt.packets (rest now.reader) halt.extra halt.stopped c.in_default.not-ReadFault
-    put.put put.counted faults
+    closed_works g.H.RecordHandler g.I.Source g.O.Sink
+    (state c.args.handler.now c.args.reader.now c.args.input.now c.args.sink.now)
+    (state c.handle_all.new.handler c.handle_all.new.reader c.handle_all.new.input c.handle_all.new.sink)
+    c.handle_all.result c.close.new.handler c.close.new.sink ran.after c.in_default.not-ReadFault c.in_default.not-WriteFault
+    ran.faults closed.step.cause ran.steady.job closed.empty closed.done
 
 pub returns-in-Ok-clause-never_memory : goal.returns-in-Ok-clause-never_memory
 returns-in-Ok-clause-never_memory g c =
