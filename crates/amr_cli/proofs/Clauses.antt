@@ -2,7 +2,7 @@
 use Rattle.std.proofs.Common.{◌≡◌, ℕ, ◌<◌, List, Option, Some, refl, sym, subst, ap, ◌∙◌, arith, inl, inr, ◌⊎◌}
 use Rattle.std.specs.Io.KnownBytes.{Appends}
 use Rattle.amr_cli.proofs.Texts.{done_text, front_of, refused_text, whole_of}
-use Rattle.amr_cli.proofs.Verdicts.{ButNotes, Done, IsRefused, Memory, Outcome, Read, Refused, Write, finished_calm, outcome}
+use Rattle.amr_cli.proofs.Verdicts.{ButNotes, Done, IsRefused, Memory, Outcome, Read, Refused, Write, faulty, outcome, rose_reading, rose_writing}
 use Rattle.amr_cli.specs.Jobs.{meaning_of}
 use Rattle.amr_cli.specs.Noted.{lines_of, notes_at}
 use Rattle.amr_cli.specs.Runs.{DoneButNotes, Notes, NotesPart, PutsOut, Ran, Run, StopsReading, StopsWriting, engine_of}
@@ -77,27 +77,19 @@ module _ (m : Meaning) (r : Run) (ran : Ran m r) where
   }
 
   -- a fault of the input
-  stops_reading_by : Outcome ran.report.end r.notes r.status → r.status ≡ status.ReadFault → StopsReading m r
-  stops_reading_by (Done is calm s) d = absurd cc
-  stops_reading_by (ButNotes is failed s) d = absurd cc
-  stops_reading_by (Read is s) d = record { failed = (faults_at end.ReadFault is).0; broke = ran.worked.read_fault is }
-  stops_reading_by (Write is s) d = absurd cc
-  stops_reading_by (Memory is s) d = absurd cc
-  stops_reading_by (Refused refuses) d = absurd (subst IsRefused d refuses.refused)
+  read_end : Outcome ran.report.end r.notes r.status → r.status ≡ status.ReadFault → ran.report.end ≡ end.ReadFault
+  read_end (Done is calm s) d = absurd cc
+  read_end (ButNotes is failed s) d = absurd cc
+  read_end (Read is s) d = is
+  read_end (Write is s) d = absurd cc
+  read_end (Memory is s) d = absurd cc
+  read_end (Refused refuses) d = absurd (subst IsRefused d refuses.refused)
 
   pub stops_reading : r.status ≡ status.ReadFault → StopsReading m r
-  stops_reading = stops_reading_by what
+  stops_reading d = let is = read_end what d in record { failed = (faults_at end.ReadFault is).0; broke = ran.worked.read_fault is }
 
-  always_read : Outcome ran.report.end r.notes r.status → r.input.faults < r.input.faults' → r.status ≡ status.ReadFault
-  always_read (Done is calm s) less = let f = (faults_at end.Done is).0 in absurd (omega (arith, f, less))
-  always_read (ButNotes is failed s) less = let f = (faults_at end.Done is).0 in absurd (omega (arith, f, less))
-  always_read (Read is s) less = s
-  always_read (Write is s) less = let f = (faults_at end.WriteFault is).0 in absurd (omega (arith, f, less))
-  always_read (Memory is s) less = let f = (faults_at end.OutOfMemory is).0 in absurd (omega (arith, f, less))
-  always_read (Refused refuses) less = let f = (finished_calm _ r.input r.output refuses.finished ran.worked.faults).0 in absurd (omega (arith, f, less))
-
-  pub read_fault_always : r.input.faults < r.input.faults' → r.status ≡ status.ReadFault
-  read_fault_always = always_read what
+  pub read_always : r.input.faults < r.input.faults' → r.status ≡ status.ReadFault
+  read_always less = faulty _ end.ReadFault r.notes r.status refl (rose_reading _ r.input r.output ran.worked.faults less) ran.ended
 
   -- a fault of the output, or of the notes
   but_notes : ran.report.end ≡ end.Done → Failed r.notes → DoneButNotes m r
@@ -121,16 +113,8 @@ module _ (m : Meaning) (r : Run) (ran : Ran m r) where
   pub stops_writing : r.status ≡ status.WriteFault → StopsWriting m r
   stops_writing = stops_writing_by what
 
-  always_write : Outcome ran.report.end r.notes r.status → r.output.faults < r.output.faults' → r.status ≡ status.WriteFault
-  always_write (Done is calm s) less = let f = (faults_at end.Done is).1 in absurd (omega (arith, f, less))
-  always_write (ButNotes is failed s) less = s
-  always_write (Read is s) less = let f = (faults_at end.ReadFault is).1 in absurd (omega (arith, f, less))
-  always_write (Write is s) less = s
-  always_write (Memory is s) less = let f = (faults_at end.OutOfMemory is).1 in absurd (omega (arith, f, less))
-  always_write (Refused refuses) less = let f = (finished_calm _ r.input r.output refuses.finished ran.worked.faults).1 in absurd (omega (arith, f, less))
-
-  pub write_fault_always : r.output.faults < r.output.faults' → r.status ≡ status.WriteFault
-  write_fault_always = always_write what
+  pub write_always : r.output.faults < r.output.faults' → r.status ≡ status.WriteFault
+  write_always less = faulty _ end.WriteFault r.notes r.status refl (rose_writing _ r.input r.output ran.worked.faults less) ran.ended
 
   -- a fault of the notes
   never_done : Outcome ran.report.end r.notes r.status → r.notes.faults < r.notes.faults' → r.status ≡ status.Done → ⊥

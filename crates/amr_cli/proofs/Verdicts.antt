@@ -1,5 +1,5 @@
 -- What came of a run, by its end, its notes and its status.
-use Rattle.std.proofs.Common.{◌≡◌, ℕ, ap, sym, subst, ◌∙◌, refl, inl, inr, ◌⊎◌}
+use Rattle.std.proofs.Common.{◌≡◌, ℕ, ◌<◌, ap, sym, subst, ◌∙◌, refl, inl, inr, ◌⊎◌, arith}
 use Rattle.amr_cli.specs.Statuses.{EndsAs, but_notes, status_for}
 use Rattle.amr_cli.specs.declared.status.Status.{Status}
 use Rattle.amr_cli.specs.declared.status.Status.TheVariants as status
@@ -54,9 +54,17 @@ outcome end.LimitReached notes s ended =
 outcome end.NoAnswer notes s ended =
     refused end.NoAnswer notes s status.NoAnswer tt tt (whatever end.NoAnswer notes s status.NoAnswer refl refl ended)
 
--- a run that was worked off without a fault
-pub finished_calm : (e : RunEnd) (i o : Flow) → IsFinished e → FaultsOf e i o → Calm i × Calm o
-finished_calm end.ReadFault i o finished f = absurd finished
-finished_calm end.WriteFault i o finished f = absurd finished
-finished_calm end.OutOfMemory i o finished f = absurd finished
-finished_calm _ i o finished f = f
+-- the end of a run in which a count of faults rose, and its status
+pub rose_reading : (e : RunEnd) (i o : Flow) → FaultsOf e i o → i.faults < i.faults' → e ≡ end.ReadFault
+rose_reading end.ReadFault i o f less = refl
+rose_reading end.WriteFault i o f less = let calm = f.0 in absurd (omega (arith, calm, less))
+rose_reading _ i o f less = let calm = f.0 in absurd (omega (arith, calm, less))
+
+pub rose_writing : (e : RunEnd) (i o : Flow) → FaultsOf e i o → o.faults < o.faults' → e ≡ end.WriteFault
+rose_writing end.WriteFault i o f less = refl
+rose_writing end.ReadFault i o f less = let calm = f.1 in absurd (omega (arith, calm, less))
+rose_writing _ i o f less = let calm = f.1 in absurd (omega (arith, calm, less))
+
+pub faulty : (e e' : RunEnd) (notes : Flow) (s : Status) → but_notes (status_for e') ≡ status_for e' → e ≡ e' → EndsAs e notes s
+    → s ≡ status_for e'
+faulty e e' notes s same is ended = whatever e notes s (status_for e') (ap status_for is) same ended

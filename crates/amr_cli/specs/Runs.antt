@@ -1,6 +1,7 @@
 -- A run of the program over what it is lent, and what is promised of it: ours.
-use Rattle.std.specs.Prelude.{◌≡◌, ◌⊎◌, ℕ, List, Some}
+use Rattle.std.specs.Prelude.{◌≡◌, ◌≢◌, ◌<◌, ◌⊎◌, ℕ, List, Some}
 use Rattle.std.specs.Io.KnownBytes.{Appends}
+use Rattle.amr_cli.specs.Jobs.{Asked}
 use Rattle.amr_cli.specs.Noted.{Noted, lines_of, notes_at}
 use Rattle.amr_cli.specs.Statuses.{EndsAs}
 use Rattle.amr_cli.specs.declared.status.Status.{Status}
@@ -85,3 +86,21 @@ pub record NotesPart (m : Meaning) (r : Run) : Type 0 where
       → AppendsFront r.notes.told r.notes.told' (notes_at m all r.status)
       ⊎ ((r.status ≡ status.WriteFault) × DoneButNotes m r
       × AppendsFront r.notes.told r.notes.told' (lines_of m all))
+
+-- the status of a read fault comes only where a read failed, and always where the input's faults
+-- rose
+pub record ReadFaults (words : List (List ℕ)) (r : Run) : Type 0 where
+  pub stops : r.status ≡ status.ReadFault → Asked words (λ m. StopsReading m r)
+  pub always : r.input.faults < r.input.faults' → r.status ≡ status.ReadFault
+
+-- the status of a write fault comes only where a write to the output failed, or one to the notes
+-- where all else was done, and always where the output's faults rose
+pub record WriteFaults (words : List (List ℕ)) (r : Run) : Type 0 where
+  pub stops : r.status ≡ status.WriteFault → Asked words (λ m. StopsWriting m r)
+  pub always : r.output.faults < r.output.faults' → r.status ≡ status.WriteFault
+
+-- the notes, where they didn't fail and where they did; the status then isn't that of a job done
+pub record TellsAll (words : List (List ℕ)) (r : Run) : Type 0 where
+  pub whole : Asked words (λ m. Notes m r)
+  pub part : Asked words (λ m. NotesPart m r)
+  pub fault : r.notes.faults < r.notes.faults' → r.status ≢ status.Done

@@ -1,6 +1,6 @@
 use crate::run::run_gateway;
 use crate::status::Status;
-use crate::test_logs::{Parts, RECORD, at, log_of, words_of};
+use crate::test_logs::{RECORD, SEVEN, at, log_of, three_packets, words_of};
 use amr_io::{MemorySink, MemorySource};
 use std::alloc::Global;
 use std::process::Abort;
@@ -25,13 +25,7 @@ fn run_with(
 
 #[test]
 fn faults_leave_a_front_of_the_file(rt: HostRuntime) -> Result<(), Fail> {
-    let seven: Parts<'_> = &[(&[0xF3, 0xC0], 30)];
-    let four: Parts<'_> = &[(&[0xF2, 0x40], 18)];
-    let two: Parts<'_> = &[(&[0xF1, 0x40], 14)];
-    let log = log_of(
-        rt.alloc(),
-        &[at(2, 320, two), at(0, 0, seven), at(1, 160, four)],
-    )?;
+    let log = three_packets(rt.alloc())?;
     let line = "record --codec AMR --window 3";
     // A log of 110 octets: whatever read fails, the header is out, and nothing else has left the window.
     for failing in 0..111u64 {
@@ -82,8 +76,7 @@ fn a_log_cut_anywhere_is_told(rt: HostRuntime) -> Result<(), Fail> {
 
 #[test]
 fn a_gap_is_kept_back_by_the_window(rt: HostRuntime) -> Result<(), Fail> {
-    let seven: Parts<'_> = &[(&[0xF3, 0xC0], 30)];
-    let log = log_of(rt.alloc(), &[at(0, 0, seven), at(1, 480, seven)])?;
+    let log = log_of(rt.alloc(), &[at(0, 0, SEVEN), at(1, 480, SEVEN)])?;
     // Two records of 46 octets, and a file of 72: with a window of 256 nothing but the header is out before the end.
     for failing in 0..93u64 {
         let (status, written, _) = run_with(&rt, RECORD, &log, &[failing], &[], &[])?;

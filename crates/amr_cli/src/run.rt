@@ -1,9 +1,9 @@
 // The program over its words, its input, its output and its notes.
-ghost use Rattle.std.specs.Prelude.{◌≡◌, ◌≢◌, ◌<◌, ◌↔◌, None, false};
+ghost use Rattle.std.specs.Prelude.{◌≡◌, ◌↔◌, None, false};
 ghost use Rattle.amr_cli.specs.Jobs.{Asked, IsServed, job_of, meaning_of};
 ghost use Rattle.amr_cli.specs.Noted.{Noted};
-ghost use Rattle.amr_cli.specs.Runs.{Notes, NotesPart, PutsOut, Ran, SameSink};
-ghost use Rattle.amr_cli.specs.Runs.{StopsReading, StopsWriting, run_of};
+ghost use Rattle.amr_cli.specs.Runs.{PutsOut, Ran, ReadFaults, SameSink};
+ghost use Rattle.amr_cli.specs.Runs.{TellsAll, WriteFaults, run_of};
 ghost use Rattle.amr_cli.specs.Statuses.{EndsAs};
 ghost use Rattle.spec_words.specs.Words.{texts};
 ghost use Rattle.run_report.specs.Lines.{notes_of, usage_line};
@@ -30,48 +30,31 @@ pub fn run_gateway<I: Source, O: Sink, E: Sink>(
     output: &mut O,
     notes: &mut E,
 ) -> Status
-    // The status is `Usage` exactly where the words give no job; nothing is then read and nothing put out.
+    // `Usage` comes exactly where the words give no job; nothing is then read and nothing put out.
     ensures usage { (job_of (texts words.now) ≡ None) ↔ (result ≡ Status.Usage) }
     ensures usage_leaves { result ≡ Status.Usage
         → (input.new ≡ input.old) × (output.new ≡ output.old)
         × Noted (written_to E.Sink notes.old notes.new) usage_line }
-
-    // Output and end, where the input tells its octets and neither it nor the output failed; what is left of the input.
+    // Output and end, where the input is told and no call failed; what is left of the input.
     ensures headline { Asked (texts words.now) (λ m. PutsOut m (run_of I.Source O.Sink E.Sink
         input.old input.new output.old output.new notes.old notes.new result)) }
     ensures leaves { Asked (texts words.now) (λ m.
         Leaves m (read_from I.Source input.old input.new) (result ≡ Status.Done)) }
-
-    // A fault of the input.
-    ensures read_fault { result ≡ Status.ReadFault → Asked (texts words.now) (λ m. StopsReading m
-        (run_of I.Source O.Sink E.Sink
-        input.old input.new output.old output.new notes.old notes.new result)) }
-    ensures read_fault_always { I.faults input.old < I.faults input.new
-        → result ≡ Status.ReadFault }
-
-    // A fault of the output, or of the notes where all else was done.
-    ensures write_fault { result ≡ Status.WriteFault → Asked (texts words.now) (λ m. StopsWriting m
-        (run_of I.Source O.Sink E.Sink
-        input.old input.new output.old output.new notes.old notes.new result)) }
-    ensures write_fault_always { O.faults output.old < O.faults output.new
-        → result ≡ Status.WriteFault }
-    ensures notes_fault { E.faults notes.old < E.faults notes.new → result ≢ Status.Done }
-
+    // A fault of the input; of the output, or of the notes where all else was done.
+    ensures read_fault { ReadFaults (texts words.now) (run_of I.Source O.Sink E.Sink
+        input.old input.new output.old output.new notes.old notes.new result) }
+    ensures write_fault { WriteFaults (texts words.now) (run_of I.Source O.Sink E.Sink
+        input.old input.new output.old output.new notes.old notes.new result) }
     // Want of memory.
     ensures memory { result ≡ Status.OutOfMemory → (output.new ≡ output.old)
         × Asked (texts words.now) (λ m. m.reads_first ≡ false → input.new ≡ input.old) }
-
-    // The notes, where the input tells its octets: the lines of the job and the line of the status, or a part of them where
-    // the notes failed.
-    ensures notes { Asked (texts words.now) (λ m. Notes m (run_of I.Source O.Sink E.Sink
-        input.old input.new output.old output.new notes.old notes.new result)) }
-    ensures notes_part { Asked (texts words.now) (λ m. NotesPart m (run_of I.Source O.Sink E.Sink
-        input.old input.new output.old output.new notes.old notes.new result)) }
-
-    // The whole run, and what stays.
+    // The notes: the lines of the job and the line of the status, or a part of them.
+    ensures notes { TellsAll (texts words.now) (run_of I.Source O.Sink E.Sink
+        input.old input.new output.old output.new notes.old notes.new result) }
+    // The whole run, and what stays of the output and the notes.
     ensures run { Asked (texts words.now) (λ m. Ran m (run_of I.Source O.Sink E.Sink
-        input.old input.new output.old output.new notes.old notes.new result)) }
-    ensures same { SameSink O.Sink output.old output.new × SameSink E.Sink notes.old notes.new }
+        input.old input.new output.old output.new notes.old notes.new result))
+        × SameSink O.Sink output.old output.new × SameSink E.Sink notes.old notes.new }
 {
     match read_words(words) {
         None => note_usage(notes),

@@ -54,6 +54,16 @@ pub fn at<'a>(sequence: u16, timestamp: u32, payload: Parts<'a>) -> Packet<'a> {
     }
 }
 
+// A payload of a frame of type 7.
+pub const SEVEN: Parts<'_> = &[(&[0xF3, 0xC0], 30)];
+
+// Three packets that come as the third, the first and the second, of frames of types 2, 7 and 4.
+pub fn three_packets(alloc: Global) -> Result<Vec<u8>, AllocError> {
+    let four: Parts<'_> = &[(&[0xF2, 0x40], 18)];
+    let two: Parts<'_> = &[(&[0xF1, 0x40], 14)];
+    log_of(alloc, &[at(2, 320, two), at(0, 0, SEVEN), at(1, 160, four)])
+}
+
 pub fn words_of(alloc: Global, line: &str) -> Result<Vec<String>, AllocError> {
     let mut words = Vec::new(alloc);
     for word in line.split(' ') {

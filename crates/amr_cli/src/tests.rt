@@ -1,6 +1,6 @@
 use crate::run::run_gateway;
 use crate::status::Status;
-use crate::test_logs::{HEAD, Parts, RECORD, at, join, log_of, words_of};
+use crate::test_logs::{HEAD, Parts, RECORD, SEVEN, at, join, log_of, three_packets, words_of};
 use amr_io::{MemorySink, MemorySource};
 use std::alloc::Global;
 use std::process::Abort;
@@ -32,6 +32,16 @@ fn expect(
     Ok(())
 }
 
+// The same of the plain command, at status 0.
+fn recorded(
+    rt: &(impl Abort + Alloc<A = Global>),
+    log: &[u8],
+    file: Parts<'_>,
+    notes: &str,
+) -> Result<(), Fail> {
+    expect(rt, RECORD, log, Status::Done, file, notes)
+}
+
 #[test]
 fn a_packet_gives_its_frame(rt: HostRuntime) -> Result<(), Fail> {
     // The payloads of one packet, the octets behind the header of the file, and the notes but for `packets` and `null`.
@@ -57,7 +67,7 @@ fn a_packet_gives_its_frame(rt: HostRuntime) -> Result<(), Fail> {
     ];
     for (payload, file, notes) in rows {
         let log = log_of(rt.alloc(), &[at(0, 0, payload)])?;
-        expect(&rt, RECORD, &log, Status::Done, file, notes)?;
+        recorded(&rt, &log, file, notes)?;
     }
     expect(
         &rt,
@@ -96,13 +106,7 @@ fn a_packet_gives_its_frame(rt: HostRuntime) -> Result<(), Fail> {
 
 #[test]
 fn packets_go_out_in_their_order(rt: HostRuntime) -> Result<(), Fail> {
-    let seven: Parts<'_> = &[(&[0xF3, 0xC0], 30)];
-    let four: Parts<'_> = &[(&[0xF2, 0x40], 18)];
-    let two: Parts<'_> = &[(&[0xF1, 0x40], 14)];
-    let log = log_of(
-        rt.alloc(),
-        &[at(2, 320, two), at(0, 0, seven), at(1, 160, four)],
-    )?;
+    let log = three_packets(rt.alloc())?;
     expect(
         &rt,
         "record --codec AMR --window 3",
@@ -121,33 +125,21 @@ fn packets_go_out_in_their_order(rt: HostRuntime) -> Result<(), Fail> {
         "packets=3 null=0 rtp=0 type=0 payload=0 place=0 late=2 copies=0 blocks=1\n",
     )?;
     // Frame times for which nothing came.
-    let log = log_of(rt.alloc(), &[at(0, 0, seven), at(1, 480, seven)])?;
-    expect(
+    let log = log_of(rt.alloc(), &[at(0, 0, SEVEN), at(1, 480, SEVEN)])?;
+    let notes = "packets=2 null=0 rtp=0 type=0 payload=0 place=0 late=0 copies=0 blocks=4\n";
+    recorded(
         &rt,
-        RECORD,
         &log,
-        Status::Done,
         &[(HEAD, 0), (&[0x3C], 31), (&[0x7C, 0x7C, 0x3C], 31)],
-        "packets=2 null=0 rtp=0 type=0 payload=0 place=0 late=0 copies=0 blocks=4\n",
+        notes,
     )?;
     // Two blocks in a payload, and the same where a payload may have one.
     let log = log_of(rt.alloc(), &[at(0, 0, &[(&[0xFF, 0xDF], 0)])])?;
-    expect(
-        &rt,
-        RECORD,
-        &log,
-        Status::Done,
-        &[(HEAD, 0), (&[0x7C, 0x7C], 0)],
-        "packets=1 null=0 rtp=0 type=0 payload=0 place=0 late=0 copies=0 blocks=2\n",
-    )?;
-    expect(
-        &rt,
-        "record --codec AMR --max-blocks 1",
-        &log,
-        Status::Done,
-        &[(HEAD, 0)],
-        "packets=1 null=0 rtp=0 type=0 payload=1 place=0 late=0 copies=0 blocks=0\n",
-    )
+    let notes = "packets=1 null=0 rtp=0 type=0 payload=0 place=0 late=0 copies=0 blocks=2\n";
+    recorded(&rt, &log, &[(HEAD, 0), (&[0x7C, 0x7C], 0)], notes)?;
+    let line = "record --codec AMR --max-blocks 1";
+    let notes = "packets=1 null=0 rtp=0 type=0 payload=1 place=0 late=0 copies=0 blocks=0\n";
+    expect(&rt, line, &log, Status::Done, &[(HEAD, 0)], notes)
 }
 
 #[test]
@@ -166,35 +158,22 @@ fn the_best_copy_is_kept(rt: HostRuntime) -> Result<(), Fail> {
     ];
     for [a, b, c] in orders {
         let log = log_of(rt.alloc(), &[at(0, 0, a), at(0, 0, b), at(0, 0, c)])?;
-        expect(
-            &rt,
-            RECORD,
-            &log,
-            Status::Done,
-            &[(HEAD, 0), (&[0x14], 15)],
-            "packets=3 null=0 rtp=0 type=0 payload=0 place=0 late=0 copies=2 blocks=1\n",
-        )?;
+        let notes = "packets=3 null=0 rtp=0 type=0 payload=0 place=0 late=0 copies=2 blocks=1\n";
+        recorded(&rt, &log, &[(HEAD, 0), (&[0x14], 15)], notes)?;
     }
     // Of equal frames the one with the greater bits.
     let none: Parts<'_> = &[(&[0xF3, 0xC0], 30)];
     let some: Parts<'_> = &[(&[0xF3, 0xC0], 29), (&[4], 0)];
     for [a, b] in [[none, some], [some, none]] {
         let log = log_of(rt.alloc(), &[at(0, 0, a), at(0, 0, b)])?;
-        expect(
-            &rt,
-            RECORD,
-            &log,
-            Status::Done,
-            &[(HEAD, 0), (&[0x3C], 30), (&[0x10], 0)],
-            "packets=2 null=0 rtp=0 type=0 payload=0 place=0 late=0 copies=1 blocks=1\n",
-        )?;
+        let notes = "packets=2 null=0 rtp=0 type=0 payload=0 place=0 late=0 copies=1 blocks=1\n";
+        recorded(&rt, &log, &[(HEAD, 0), (&[0x3C], 30), (&[0x10], 0)], notes)?;
     }
     Ok(())
 }
 
 #[test]
 fn places_wrap_and_are_refused(rt: HostRuntime) -> Result<(), Fail> {
-    let seven: Parts<'_> = &[(&[0xF3, 0xC0], 30)];
     let one: Parts<'_> = &[(HEAD, 0), (&[0x3C], 31)];
     let two: Parts<'_> = &[(HEAD, 0), (&[0x3C], 31), (&[0x3C], 31)];
     let whole = "packets=2 null=0 rtp=0 type=0 payload=0 place=0 late=0 copies=0 blocks=2\n";
@@ -211,33 +190,26 @@ fn places_wrap_and_are_refused(rt: HostRuntime) -> Result<(), Fail> {
         (0xFFFF_FF60, 0, two, whole),
     ];
     for (a, b, file, notes) in rows {
-        let log = log_of(rt.alloc(), &[at(0, a, seven), at(1, b, seven)])?;
-        expect(&rt, RECORD, &log, Status::Done, file, notes)?;
+        let log = log_of(rt.alloc(), &[at(0, a, SEVEN), at(1, b, SEVEN)])?;
+        recorded(&rt, &log, file, notes)?;
     }
     // A packet of another source, and one behind a packet that was refused as too far ahead.
-    let mut stranger = at(1, 160, seven);
+    let mut stranger = at(1, 160, SEVEN);
     stranger.ssrc = 1;
-    let log = log_of(rt.alloc(), &[at(0, 0, seven), stranger])?;
-    expect(&rt, RECORD, &log, Status::Done, one, refused)?;
+    let log = log_of(rt.alloc(), &[at(0, 0, SEVEN), stranger])?;
+    recorded(&rt, &log, one, refused)?;
     let log = log_of(
         rt.alloc(),
-        &[at(0, 0, seven), at(1, 7_200_160, seven), at(2, 160, seven)],
+        &[at(0, 0, SEVEN), at(1, 7_200_160, SEVEN), at(2, 160, SEVEN)],
     )?;
-    expect(
-        &rt,
-        RECORD,
-        &log,
-        Status::Done,
-        two,
-        "packets=3 null=0 rtp=0 type=0 payload=0 place=1 late=0 copies=0 blocks=2\n",
-    )
+    let notes = "packets=3 null=0 rtp=0 type=0 payload=0 place=1 late=0 copies=0 blocks=2\n";
+    recorded(&rt, &log, two, notes)
 }
 
 #[test]
 fn a_long_gap_is_filled(rt: HostRuntime) -> Result<(), Fail> {
-    let seven: Parts<'_> = &[(&[0xF3, 0xC0], 30)];
     let words = words_of(rt.alloc(), RECORD)?;
-    let log = log_of(rt.alloc(), &[at(0, 0, seven), at(1, 7_200_000, seven)])?;
+    let log = log_of(rt.alloc(), &[at(0, 0, SEVEN), at(1, 7_200_000, SEVEN)])?;
     let mut input = MemorySource::create(rt.alloc(), &log, 13, &[])?;
     let mut output = MemorySink::create(rt.alloc(), ROOM, 99_999, &[])?;
     let mut notes = MemorySink::create(rt.alloc(), 999, 999, &[])?;
@@ -267,14 +239,8 @@ fn headers_are_read_whole(rt: HostRuntime) -> Result<(), Fail> {
     ]];
     for record in whole {
         let log = join(rt.alloc(), record)?;
-        expect(
-            &rt,
-            RECORD,
-            &log,
-            Status::Done,
-            &[(HEAD, 0), (&[0x3C], 31)],
-            "packets=1 null=0 rtp=0 type=0 payload=0 place=0 late=0 copies=0 blocks=1\n",
-        )?;
+        let notes = "packets=1 null=0 rtp=0 type=0 payload=0 place=0 late=0 copies=0 blocks=1\n";
+        recorded(&rt, &log, &[(HEAD, 0), (&[0x3C], 31)], notes)?;
     }
     // Too short, another version, sources, an extension and padding that don't fit.
     let refused: [Parts<'_>; 6] = [
@@ -287,18 +253,13 @@ fn headers_are_read_whole(rt: HostRuntime) -> Result<(), Fail> {
     ];
     for record in refused {
         let log = join(rt.alloc(), record)?;
-        expect(&rt, RECORD, &log, Status::Done, &[(HEAD, 0)], bad)?;
+        recorded(&rt, &log, &[(HEAD, 0)], bad)?;
     }
     // Another payload type than the asked one.
     let log = log_of(rt.alloc(), &[at(0, 0, &[(&[0xF3, 0xC0], 30)])])?;
-    expect(
-        &rt,
-        "record --codec AMR --pt 97",
-        &log,
-        Status::Done,
-        &[(HEAD, 0)],
-        "packets=1 null=0 rtp=0 type=1 payload=0 place=0 late=0 copies=0 blocks=0\n",
-    )
+    let line = "record --codec AMR --pt 97";
+    let notes = "packets=1 null=0 rtp=0 type=1 payload=0 place=0 late=0 copies=0 blocks=0\n";
+    expect(&rt, line, &log, Status::Done, &[(HEAD, 0)], notes)
 }
 
 #[test]

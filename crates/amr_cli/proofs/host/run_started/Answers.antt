@@ -32,7 +32,7 @@ returns-in-Ok-clause-ran g c =
       subst (λ (words : List (String Global)). HasRun (texts words) run code) (c.deref.ensures.value ∙ is) (record {
         usage = gave.usage;
         usage_noted = λ u. (gave.usage_leaves u).2;
-        run = gave.run;
+        run = gave.run.0;
         ends = c.code_of.ensures;
       }),
     ))
