@@ -4,7 +4,8 @@ use Rattle.std.specs.List.{AllByRecursion, list_all, cons_option}
 use Rattle.std.specs.Str.{str_eq_ignore_ascii_case}
 use Rattle.media_laws.proofs.Texts.{AreInk, IsInk, IsWhole, IsPiece}
 use Rattle.media_laws.proofs.Numbers.{IsValue, all_append}
-use Rattle.spec_media.specs.Params.{Row, is_named, row_of, rows, octet_align, mode_set, period, capability, neighbor, crc, sorting, interleaving, max_red}
+use Rattle.refusals.specs.declared.param.Param.TheVariants as param
+use Rattle.spec_media.specs.Params.{Row, is_named, row_of, rows, row_for}
 use Rattle.spec_media.specs.Pieces.{is_empty, is_semicolon, name_of, trimmed, value_of}
 
 -- a row with a value as it is printed
@@ -126,23 +127,23 @@ known r k = record {
 -- the rows of the table are rows
 pub rows_are_rows : AllByRecursion IsRow rows
 rows_are_rows = (
-  known octet_align (record { name = λ v. refl; value = λ v. refl; row = λ v. refl; some = refl; octets = refl }),
+  known (row_for param.OctetAlign) (record { name = λ v. refl; value = λ v. refl; row = λ v. refl; some = refl; octets = refl }),
   (
-    known mode_set (record { name = λ v. refl; value = λ v. refl; row = λ v. refl; some = refl; octets = refl }),
+    known (row_for param.ModeSet) (record { name = λ v. refl; value = λ v. refl; row = λ v. refl; some = refl; octets = refl }),
     (
-      known period (record { name = λ v. refl; value = λ v. refl; row = λ v. refl; some = refl; octets = refl }),
+      known (row_for param.Period) (record { name = λ v. refl; value = λ v. refl; row = λ v. refl; some = refl; octets = refl }),
       (
-        known capability (record { name = λ v. refl; value = λ v. refl; row = λ v. refl; some = refl; octets = refl }),
+        known (row_for param.Capability) (record { name = λ v. refl; value = λ v. refl; row = λ v. refl; some = refl; octets = refl }),
         (
-          known neighbor (record { name = λ v. refl; value = λ v. refl; row = λ v. refl; some = refl; octets = refl }),
+          known (row_for param.Neighbor) (record { name = λ v. refl; value = λ v. refl; row = λ v. refl; some = refl; octets = refl }),
           (
-            known crc (record { name = λ v. refl; value = λ v. refl; row = λ v. refl; some = refl; octets = refl }),
+            known (row_for param.Crc) (record { name = λ v. refl; value = λ v. refl; row = λ v. refl; some = refl; octets = refl }),
             (
-              known sorting (record { name = λ v. refl; value = λ v. refl; row = λ v. refl; some = refl; octets = refl }),
+              known (row_for param.Sorting) (record { name = λ v. refl; value = λ v. refl; row = λ v. refl; some = refl; octets = refl }),
               (
-                known interleaving (record { name = λ v. refl; value = λ v. refl; row = λ v. refl; some = refl; octets = refl }),
+                known (row_for param.Interleaving) (record { name = λ v. refl; value = λ v. refl; row = λ v. refl; some = refl; octets = refl }),
                 (
-                  known max_red (record { name = λ v. refl; value = λ v. refl; row = λ v. refl; some = refl; octets = refl }),
+                  known (row_for param.MaxRed) (record { name = λ v. refl; value = λ v. refl; row = λ v. refl; some = refl; octets = refl }),
                   tt,
                 ),
               ),

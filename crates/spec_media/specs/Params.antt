@@ -1,6 +1,6 @@
 -- The media parameters (RFC 4867, 8.1 and 8.2): their names and the values that each may have.
 -- The range of `interleaving` is this project's own.
-use Rattle.std.specs.Prelude.{◌≡◌, ◌≤◌, ◌<◌, ◌^◌, ℕ, Bool, false, not, ◌&&◌, ◌||◌, nat_le, List, [], ◌∷◌, find, Option, Some, None, is_some, IfSome}
+use Rattle.std.specs.Prelude.{◌≡◌, ◌≤◌, ◌<◌, ◌^◌, ℕ, Bool, false, not, ◌&&◌, ◌||◌, nat_le, List, [], ◌∷◌, find, map, Option, Some, None, is_some, IfSome}
 use Rattle.std.specs.List.{list_all}
 use Rattle.std.specs.Str.{str_eq_ignore_ascii_case}
 use Rattle.amr_frame.specs.declared.codec.Codec.{Codec}
@@ -21,54 +21,26 @@ pub record Row : Type 0 where
   pub name : List ℕ
   pub values : Values
 
-abbrev row : Param → Values → Row
-row param values = record { param = param; name = param_name param; values = values }
-
--- the rows, in the order in which parameters are printed
-abbrev pub octet_align : Row
-octet_align = row param.OctetAlign (Range 0 1)
-
-abbrev pub mode_set : Row
-mode_set = row param.ModeSet Modes
-
-abbrev pub period : Row
-period = row param.Period (Range 1 2)
-
-abbrev pub capability : Row
-capability = row param.Capability (Range 1 2)
-
-abbrev pub neighbor : Row
-neighbor = row param.Neighbor (Range 0 1)
-
-abbrev pub crc : Row
-crc = row param.Crc (Range 0 1)
-
-abbrev pub sorting : Row
-sorting = row param.Sorting (Range 0 1)
-
-abbrev pub interleaving : Row
-interleaving = row param.Interleaving (Range 1 65535)
-
-abbrev pub max_red : Row
-max_red = row param.MaxRed (Range 0 65535)
-
--- the table
-abbrev pub rows : List Row
-rows =
-    octet_align ∷ mode_set ∷ period ∷ capability ∷ neighbor ∷ crc ∷ sorting ∷ interleaving
-    ∷ max_red ∷ []
+-- the values of each parameter
+abbrev pub values_of : Param → Values
+values_of param.OctetAlign = Range 0 1
+values_of param.ModeSet = Modes
+values_of param.Period = Range 1 2
+values_of param.Capability = Range 1 2
+values_of param.Neighbor = Range 0 1
+values_of param.Crc = Range 0 1
+values_of param.Sorting = Range 0 1
+values_of param.Interleaving = Range 1 65535
+values_of param.MaxRed = Range 0 65535
 
 -- the row of a parameter
 abbrev pub row_for : Param → Row
-row_for param.OctetAlign = octet_align
-row_for param.ModeSet = mode_set
-row_for param.Period = period
-row_for param.Capability = capability
-row_for param.Neighbor = neighbor
-row_for param.Crc = crc
-row_for param.Sorting = sorting
-row_for param.Interleaving = interleaving
-row_for param.MaxRed = max_red
+row_for p = record { param = p; name = param_name p; values = values_of p }
+
+-- the table, in the order in which parameters are printed
+abbrev pub rows : List Row
+rows = map row_for (param.OctetAlign ∷ param.ModeSet ∷ param.Period ∷ param.Capability
+    ∷ param.Neighbor ∷ param.Crc ∷ param.Sorting ∷ param.Interleaving ∷ param.MaxRed ∷ [])
 
 -- whether a piece has the name of a row, in capital or small letters
 abbrev pub is_named : Row → List ℕ → Bool

@@ -7,9 +7,11 @@ use Rattle.std.specs.Option.{unwrap_or}
 use Rattle.std.specs.Str.{str_eq_ignore_ascii_case}
 use Rattle.amr_frame.specs.declared.codec.Codec.{Codec}
 use Rattle.amr_frame.specs.First.{when, first}
+use Rattle.refusals.specs.declared.param.Param.{Param}
+use Rattle.refusals.specs.declared.param.Param.TheVariants as param
 use Rattle.refusals.specs.declared.media.FmtpRefusal.{FmtpRefusal}
 use Rattle.refusals.specs.declared.media.FmtpRefusal.TheVariants as why
-use Rattle.spec_media.specs.Params.{Row, Parameters, is_named, row_of, is_allowed, octet_align, mode_set, period, capability, neighbor, crc, sorting, interleaving, max_red}
+use Rattle.spec_media.specs.Params.{Row, Parameters, is_named, row_of, is_allowed, row_for}
 use Rattle.spec_media.specs.Pieces.{is_empty, items, name_of, number_in, pieces, value_of}
 use Rattle.spec_modes.specs.ModeSets.{modes_among}
 
@@ -29,27 +31,32 @@ abbrev pub piece_refusal : Codec → List (List ℕ) → List ℕ → Option Fmt
 piece_refusal codec before piece = first (
     when (is_empty (name_of piece)) why.NoName ∷ row_refusal codec before piece (row_of piece) ∷ [])
 
+-- the first piece that has the name of a parameter
+abbrev pub piece_of : Param → List (List ℕ) → Option (List ℕ)
+piece_of p ps = find (is_named (row_for p)) ps
+
 -- the number that a parameter is given, if it is
-abbrev pub given : Row → List (List ℕ) → Option ℕ
-given r ps = option_and_then (λ piece. number_in 5 (value_of piece)) (find (is_named r) ps)
+abbrev pub given : Param → List (List ℕ) → Option ℕ
+given p ps = option_and_then (λ piece. number_in 5 (value_of piece)) (piece_of p ps)
 
 -- whether it is given this number
-abbrev pub is_given : Row → ℕ → List (List ℕ) → Bool
-is_given r n ps = elim (given r ps) [
+abbrev pub is_given : Param → ℕ → List (List ℕ) → Bool
+is_given p n ps = elim (given p ps) [
   | None ↦ false
   | Some m ↦ nat_eq m n
 ]
 
 -- whether pieces give what needs octet alignment
 abbrev pub asks_alignment : List (List ℕ) → Bool
-asks_alignment ps = is_given crc 1 ps || is_given sorting 1 ps || is_some (given interleaving ps)
+asks_alignment ps =
+    is_given param.Crc 1 ps || is_given param.Sorting 1 ps || is_some (given param.Interleaving ps)
 
 -- why pieces are refused: the first piece that is, and then F4
 abbrev pub refusal : Codec → List (List ℕ) → Option FmtpRefusal
 refusal codec ps = first (
     map (λ k. piece_refusal codec (take k ps) (slice_index_or ps k []))
     (range_with_len 0 (length ps))
-    ++ when (is_given octet_align 0 ps && asks_alignment ps) why.Contradiction ∷ [])
+    ++ when (is_given param.OctetAlign 0 ps && asks_alignment ps) why.Contradiction ∷ [])
 
 -- the modes of a list, as a set
 abbrev pub modes_of : Codec → List ℕ → List ℕ
@@ -58,15 +65,15 @@ modes_of codec value = modes_among codec (filter_map (number_in 5) (items value)
 -- what pieces say: each parameter what it is given, or its default
 abbrev pub parameters_in : Codec → List (List ℕ) → Parameters
 parameters_in codec ps = record {
-  octet_aligned = is_given octet_align 1 ps || asks_alignment ps;
-  modes = option_map (λ piece. modes_of codec (value_of piece)) (find (is_named mode_set) ps);
-  period = unwrap_or (given period ps) 1;
-  capability = unwrap_or (given capability ps) 1;
-  neighbor = is_given neighbor 1 ps;
-  crc = is_given crc 1 ps;
-  sorting = is_given sorting 1 ps;
-  interleaving = given interleaving ps;
-  max_red = given max_red ps;
+  octet_aligned = is_given param.OctetAlign 1 ps || asks_alignment ps;
+  modes = option_map (λ piece. modes_of codec (value_of piece)) (piece_of param.ModeSet ps);
+  period = unwrap_or (given param.Period ps) 1;
+  capability = unwrap_or (given param.Capability ps) 1;
+  neighbor = is_given param.Neighbor 1 ps;
+  crc = is_given param.Crc 1 ps;
+  sorting = is_given param.Sorting 1 ps;
+  interleaving = given param.Interleaving ps;
+  max_red = given param.MaxRed ps;
 }
 
 -- what is read where nothing is refused
