@@ -60,17 +60,15 @@ fn numbers_have_up_to_thirteen_digits(rt: HostRuntime) -> Result<(), Fail> {
         pt: Some(pt),
         ..PLAIN
     };
+    let limited = |limit: u64| RecordWords { limit, ..PLAIN };
     let rows = [
+        ("record --codec AMR --limit 1099511627776", PLAIN),
+        ("record --codec AMR --limit 1", limited(1)),
         ("record --codec AMR --pt 97", of_type(97)),
         ("record --codec AMR --pt 097", of_type(97)),
         ("record --codec AMR --pt 0", of_type(0)),
         ("record --codec AMR --pt 127", of_type(127)),
         ("record --codec AMR --pt 0000000000007", of_type(7)),
-        (
-            "record --codec AMR --limit 1",
-            RecordWords { limit: 1, ..PLAIN },
-        ),
-        ("record --codec AMR --limit 1099511627776", PLAIN),
     ];
     assert_eq!(rt; first_wrong(rt.alloc(), &rows)?, None);
     Ok(())
@@ -83,6 +81,7 @@ fn a_payload_has_no_more_blocks_than_the_window(rt: HostRuntime) -> Result<(), F
         max_blocks,
         ..PLAIN
     };
+    let reaching = |reach: u32| RecordWords { reach, ..PLAIN };
     let rows = [
         ("record --codec AMR --window 8", sized(8, 8)),
         ("record --codec AMR --window 4096", sized(4096, 64)),
@@ -91,10 +90,7 @@ fn a_payload_has_no_more_blocks_than_the_window(rt: HostRuntime) -> Result<(), F
         // Whether the window has room for a payload isn't a question of the words.
         ("record --codec AMR --window 8 --max-blocks 9", sized(8, 9)),
         ("record --max-blocks 9 --window 8 --codec AMR", sized(8, 9)),
-        (
-            "record --codec AMR --reach 1",
-            RecordWords { reach: 1, ..PLAIN },
-        ),
+        ("record --codec AMR --reach 1", reaching(1)),
         ("record --codec AMR --reach 45000", PLAIN),
     ];
     assert_eq!(rt; first_wrong(rt.alloc(), &rows)?, None);
