@@ -1,6 +1,8 @@
 -- Records at the front of octets.
 use Rattle.std.proofs.Common.{◌≡◌, ◌≢◌, ℕ, ◌+◌, ◌-◌, ◌^◌, ◌<◌, List, ◌++◌, refl, sym, ap, subst, ◌∙◌, length, take, drop, arith, append_assoc, take-append-drop}
-use Rattle.std.specs.Prelude.{Result, Ok}
+use Rattle.std.specs.Prelude.{Option, Result, Ok}
+use Rattle.std.specs.Io.KnownBytes.{Consumes}
+use Rattle.amr_io.specs.Inlet.{Fills, FillsMore, InletState}
 use Rattle.amr_io.specs.declared.gate.Gate.{Gate}
 use Rattle.amr_io.specs.declared.gate.Gate.TheVariants as gate
 use Rattle.amr_io.specs.declared.gate.Filled.{Filled}
@@ -46,10 +48,41 @@ abbrev answer : Filled → Result Filled Failed
 answer filled = Ok filled
 
 -- octets come only while the gate is open
-pub more_is_open : (g : Gate) (filled : Filled) (n : ℕ) → g ≢ gate.Spent → (g ≡ gate.End
+more_is_open : (g : Gate) (filled : Filled) (n : ℕ) → g ≢ gate.Spent → (g ≡ gate.End
     → answer filled ≡ answer End) → (g ≡ gate.OverLimit → answer filled ≡ answer OverLimit)
     → filled ≡ More n → g ≡ gate.Open
 more_is_open gate.Open filled n usable ended over is = refl
 more_is_open gate.End filled n usable ended over is = let r = ended refl in cc
 more_is_open gate.OverLimit filled n usable ended over is = let r = over refl in cc
 more_is_open gate.Spent filled n usable ended over is = absurd (usable refl)
+
+-- octets that came with a fill, and the inlet before and after it
+pub record Came (left left' : Option (List ℕ)) (old new : InletState) : Type 0 where
+  pub octets : List ℕ
+  pub some : 0 < length octets
+  pub took : Consumes left left' octets
+  pub held : new.held ≡ old.held ++ octets
+  pub taken : new.taken ≡ old.taken + length octets
+  pub limit : new.limit ≡ old.limit
+  pub was : old.gate ≡ gate.Open
+  pub still : new.gate ≡ gate.Open
+
+pub came_more : (left left' : Option (List ℕ)) (old new : InletState) (filled : Filled) (n : ℕ)
+    → old.gate ≢ gate.Spent → (old.gate ≡ gate.Open → Fills left left' old new (Ok filled))
+    → (old.gate ≡ gate.End → answer filled ≡ answer End)
+    → (old.gate ≡ gate.OverLimit → answer filled ≡ answer OverLimit)
+    → filled ≡ More n → Came left left' old new
+came_more left left' old new filled n usable fills ended over is =
+    let was = more_is_open old.gate filled n usable ended over is in
+    let more : FillsMore left left' old new n =
+    subst (λ a. Fills left left' old new (Ok a)) is (fills was) in
+    record {
+      octets = more.0;
+      some = omega (arith, more.1, more.2);
+      took = more.5;
+      held = ap (λ t. t.held) more.6;
+      taken = ap (λ t. t.taken) more.6 ∙ ap (λ k. old.taken + k) (sym more.1);
+      limit = ap (λ t. t.limit) more.6;
+      was = was;
+      still = ap (λ t. t.gate) more.6 ∙ was;
+    }
