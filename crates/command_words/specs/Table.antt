@@ -12,41 +12,42 @@ pub record Row : Type 0 where
   pub default : Option ℕ
   pub commands : List (List ℕ)
 
-abbrev pub row : List ℕ → Values → Option ℕ → List (List ℕ) → Row
-row option values default commands =
-    record { option = option; values = values; default = default; commands = commands }
-
 -- the command that writes a log of packets as a storage file
 abbrev pub record_name : List ℕ
 record_name = codes "record"
 
+-- a row of an option of that command alone
+abbrev of_record : List ℕ → Values → Option ℕ → Row
+of_record option values default =
+    record { option = option; values = values; default = default; commands = record_name ∷ [] }
+
 -- the codec, which has to be given
 abbrev pub codec : Row
-codec = row (codes "--codec") Codecs None (record_name ∷ [])
+codec = of_record (codes "--codec") Codecs None
 
 -- the frames of one block
 abbrev pub channels : Row
-channels = row (codes "--channels") (Numbers 1 6) (Some 1) (record_name ∷ [])
+channels = of_record (codes "--channels") (Numbers 1 6) (Some 1)
 
 -- the payload type
 abbrev pub pt : Row
-pt = row (codes "--pt") (Numbers 0 127) None (record_name ∷ [])
+pt = of_record (codes "--pt") (Numbers 0 127) None
 
 -- the most octets that are read
 abbrev pub limit : Row
-limit = row (codes "--limit") (Numbers 1 1099511627776) (Some 1099511627776) (record_name ∷ [])
+limit = of_record (codes "--limit") (Numbers 1 1099511627776) (Some 1099511627776)
 
 -- the window, in blocks
 abbrev pub window : Row
-window = row (codes "--window") (Numbers 1 4096) (Some 256) (record_name ∷ [])
+window = of_record (codes "--window") (Numbers 1 4096) (Some 256)
 
 -- how many blocks ahead a packet may lie
 abbrev pub reach : Row
-reach = row (codes "--reach") (Numbers 1 45000) (Some 45000) (record_name ∷ [])
+reach = of_record (codes "--reach") (Numbers 1 45000) (Some 45000)
 
 -- the most blocks in a payload, whose default depends on the window
 abbrev pub max_blocks : Row
-max_blocks = row (codes "--max-blocks") (Numbers 1 64) None (record_name ∷ [])
+max_blocks = of_record (codes "--max-blocks") (Numbers 1 64) None
 
 -- all rows
 abbrev pub table : List Row

@@ -5,12 +5,12 @@ use Rattle.std.specs.Io.KnownBytes.{Consumes}
 use Rattle.std.specs.Borrow.{MutBor, Fml, RattleType}
 use Rattle.std.specs.Io.BufRead.{Rests}
 use Rattle.amr_io.specs.declared.source.Failed.{Failed}
-use Rattle.spec_packet.specs.Records.{IsRecord, IsWhole}
+use Rattle.spec_packet.specs.Records.{IsRecord}
 use Rattle.record_reader.specs.declared.reader.RecordReader.{RecordReader}
 use Rattle.record_reader.specs.declared.next.Next.{Next}
 use Rattle.record_reader.specs.declared.next.Next.TheVariants.{Record, End, Truncated, OverLimit}
 use Rattle.record_reader.specs.contracts.reader.RecordReader.{the_row}
-use Rattle.record_reader.specs.Reading.{held, rest, given, taken_of, limit_of, IsOpen, HasEnded, IsOver, IsSpent, IsUsable, Exhausts, Stops}
+use Rattle.record_reader.specs.Reading.{held, rest, given, taken_of, limit_of, IsOpen, HasEnded, IsOver, IsUsable, Exhausts, Fails, Goes, PassesLimit, Stops}
 
 -- how many octets the record has that was lent
 abbrev pub record_octets : Result Next Failed → ℕ
@@ -35,18 +35,13 @@ module _ {HEAD AT : ℕ} where
   Gives left left' more old (Ok (Truncated have)) new = Consumes left left' more
       × Stops more old new × Exhausts left more
       × (length (rest new) ≡ have) × (0 < have) × HasEnded new
-  Gives left left' more old (Ok OverLimit) new = (x : ℕ) × Consumes left left' (more ++ x ∷ [])
-      × Stops more old new
-      × (taken_of new ≡ limit_of new) × IsOver new
-  Gives left left' more old (Err _) new = Consumes left left' more × Stops more old new
-      × IsSpent new
+  Gives left left' more old (Ok OverLimit) new = PassesLimit left left' more old new
+  Gives left left' more old (Err _) new = Fails left left' more old new
 
-  -- some octets were read, none where a record was held, and the reader went on
+  -- some octets were read, and the reader went on
   abbrev pub GoesOn : Option (List ℕ) → Option (List ℕ) → RecordReader HEAD AT
       → Result Next Failed → RecordReader HEAD AT → Type 0
-  GoesOn left left' old r new = (more : List ℕ) × Gives left left' more old r new
-      × (taken_of new ≡ taken_of old + length more)
-      × (limit_of new ≡ limit_of old) × (IsWhole HEAD AT (rest old) → more ≡ [])
+  GoesOn left left' old r new = Goes (λ more. Gives left left' more old r new) old new
 
 -- the octets given rise by those of the record, and they and those taken stay within the limit; no
 -- more are held than a whole record; an end stays; only a fault spends the reader

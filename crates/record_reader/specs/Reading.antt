@@ -70,6 +70,24 @@ abbrev pub Exhausts : Option (List ℕ) → List ℕ → Type 0
 Exhausts left octets = IfSome left (λ all. all ≡ octets)
 
 module _ {HEAD AT : ℕ} where
+  -- these octets were read, and one past the limit
+  abbrev pub PassesLimit : Option (List ℕ) → Option (List ℕ) → List ℕ → RecordReader HEAD AT
+      → RecordReader HEAD AT → Type 0
+  PassesLimit left left' more old new = (x : ℕ) × Consumes left left' (more ++ x ∷ [])
+      × Stops more old new
+      × (taken_of new ≡ limit_of new) × IsOver new
+
+  -- these octets were read, and then a read failed
+  abbrev pub Fails : Option (List ℕ) → Option (List ℕ) → List ℕ → RecordReader HEAD AT
+      → RecordReader HEAD AT → Type 0
+  Fails left left' more old new = Consumes left left' more × Stops more old new × IsSpent new
+
+  -- some octets were read, none where a record was held, with which it did so; it took so many
+  -- more, and keeps its limit
+  abbrev pub Goes : (List ℕ → Type 0) → RecordReader HEAD AT → RecordReader HEAD AT → Type 0
+  Goes did old new = (more : List ℕ) × did more × (taken_of new ≡ taken_of old + length more)
+      × (limit_of new ≡ limit_of old) × (IsWhole HEAD AT (rest old) → more ≡ [])
+
   -- what a step that read these octets did, by its answer
   abbrev pub Steps : Option (List ℕ) → Option (List ℕ) → List ℕ → RecordReader HEAD AT
       → Result Step Failed → RecordReader HEAD AT → Type 0
@@ -78,19 +96,13 @@ module _ {HEAD AT : ℕ} where
       × IsRecord HEAD AT (lent new) × IsOpen new
   Steps left left' more old (Ok End) new = Consumes left left' more × Stops more old new
       × Exhausts left more × HasEnded new
-  Steps left left' more old (Ok OverLimit) new = (x : ℕ) × Consumes left left' (more ++ x ∷ [])
-      × Stops more old new
-      × (taken_of new ≡ limit_of new) × IsOver new
-  Steps left left' more old (Err _) new = Consumes left left' more × Stops more old new
-      × IsSpent new
+  Steps left left' more old (Ok OverLimit) new = PassesLimit left left' more old new
+  Steps left left' more old (Err _) new = Fails left left' more old new
 
-  -- some octets were read, none where a record was held, and the reader went a step; it took so
-  -- many more, and keeps its limit
+  -- some octets were read, and the reader went a step
   abbrev pub Advances : Option (List ℕ) → Option (List ℕ) → RecordReader HEAD AT
       → Result Step Failed → RecordReader HEAD AT → Type 0
-  Advances left left' old r new = (more : List ℕ) × Steps left left' more old r new
-      × (taken_of new ≡ taken_of old + length more)
-      × (limit_of new ≡ limit_of old) × (IsWhole HEAD AT (rest old) → more ≡ [])
+  Advances left left' old r new = Goes (λ more. Steps left left' more old r new) old new
 
   -- what a step that is served shows of the octets that were not given yet, `room` of which the
   -- limit allows

@@ -100,20 +100,20 @@ fn records_come_in_order_however_reads_are_cut(rt: HostRuntime) -> Result<(), Fa
         (4, 9, [one(3), part(1), part(1), part(1)]),
         (0, 9, [end, end, end, end]),
     ];
-    expect_rows::<2, 0>(&rt, short, &rows2)?;
     let rows8: [(usize, u64, [Answer; 4]); 4] = [
         (17, 17, [one(9), none(8), end, end]),
         (17, 16, [one(9), over, over, over]),
         (16, 16, [one(9), part(7), part(7), part(7)]),
         (8, 99, [part(8), part(8), part(8), part(8)]),
     ];
-    expect_rows::<8, 0>(&rt, long, &rows8)?;
     let rows6: [(usize, u64, [Answer; 4]); 4] = [
         (13, 13, [one(7), none(6), end, end]),
         (13, 12, [one(7), over, over, over]),
         (12, 99, [one(7), part(5), part(5), part(5)]),
         (6, 99, [part(6), part(6), part(6), part(6)]),
     ];
+    expect_rows::<2, 0>(&rt, short, &rows2)?;
+    expect_rows::<8, 0>(&rt, long, &rows8)?;
     expect_rows::<6, 4>(&rt, behind, &rows6)
 }
 

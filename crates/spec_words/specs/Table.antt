@@ -27,34 +27,46 @@ row option values default commands =
 abbrev pub record_name : List ℕ
 record_name = codes "record"
 
-abbrev pub stream_name : List ℕ
-stream_name = codes "stream"
-
-abbrev pub convert_name : List ℕ
-convert_name = codes "convert"
-
 abbrev pub list_name : List ℕ
 list_name = codes "list"
 
 abbrev pub answer_name : List ℕ
 answer_name = codes "answer"
 
-abbrev pub trial_name : List ℕ
-trial_name = codes "trial"
+-- those that send packets from a file or a log, and the one that sends what it draws
+abbrev pub stream_name : List ℕ
+stream_name = codes "stream"
 
--- those that receive packets, those that send packets, and those that do either from a file or a
--- log
-abbrev receiving : List (List ℕ)
-receiving = record_name ∷ convert_name ∷ trial_name ∷ []
-
-abbrev sending : List (List ℕ)
-sending = stream_name ∷ convert_name ∷ trial_name ∷ []
+abbrev pub convert_name : List ℕ
+convert_name = codes "convert"
 
 abbrev numbering : List (List ℕ)
 numbering = stream_name ∷ convert_name ∷ []
 
+abbrev pub trial_name : List ℕ
+trial_name = codes "trial"
+
+-- those that send packets, those that receive packets, and those with a format of payloads
+abbrev sending : List (List ℕ)
+sending = stream_name ∷ convert_name ∷ trial_name ∷ []
+
+abbrev receiving : List (List ℕ)
+receiving = record_name ∷ convert_name ∷ trial_name ∷ []
+
 abbrev with_a_format : List (List ℕ)
 with_a_format = record_name ∷ stream_name ∷ convert_name ∷ list_name ∷ trial_name ∷ []
+
+-- a row of a number in a range, with its default: of those that send packets, of what packets of a
+-- file or a log carry, from 0 on, and of what is wanted of an offer, from 0 to the default
+abbrev of_sending : List ℕ → ℕ → ℕ → ℕ → Row
+of_sending option least greatest default =
+    row option (Numbers least greatest) (Some default) sending
+
+abbrev of_packets : List ℕ → ℕ → ℕ → Row
+of_packets option greatest default = row option (Numbers 0 greatest) (Some default) numbering
+
+abbrev up_to : List ℕ → ℕ → Row
+up_to option greatest = row option (Numbers 0 greatest) (Some greatest) (answer_name ∷ [])
 
 -- the codec, which has to be given; the frames of one block; the media parameters of what is read
 -- or sent, and those of what is sent again
@@ -100,30 +112,30 @@ offer_limit = row (codes "--limit") (Numbers 1 65536) (Some 65536) (answer_name 
 -- how packets are sent: the new blocks of one, the packets of a group, the blocks sent again,
 -- whether packets of NO_DATA are left out
 abbrev pub blocks : Row
-blocks = row (codes "--blocks") (Numbers 1 64) (Some 1) sending
+blocks = of_sending (codes "--blocks") 1 64 1
 
 abbrev pub group : Row
-group = row (codes "--length") (Numbers 1 16) (Some 1) sending
+group = of_sending (codes "--length") 1 16 1
 
 abbrev pub repeat : Row
-repeat = row (codes "--repeat") (Numbers 0 63) (Some 0) sending
+repeat = of_sending (codes "--repeat") 0 63 0
 
 abbrev pub skip : Row
-skip = row (codes "--skip") (Numbers 0 1) (Some 0) sending
+skip = of_sending (codes "--skip") 0 1 0
 
 -- what packets carry: the codec mode request, the source, the first timestamp, the first sequence
 -- number
 abbrev pub cmr : Row
-cmr = row (codes "--cmr") (Numbers 0 15) (Some 15) numbering
+cmr = of_packets (codes "--cmr") 15 15
 
 abbrev pub ssrc : Row
-ssrc = row (codes "--ssrc") (Numbers 0 4294967295) (Some 0) numbering
+ssrc = of_packets (codes "--ssrc") 4294967295 0
 
 abbrev pub ts : Row
-ts = row (codes "--ts") (Numbers 0 4294967295) (Some 0) numbering
+ts = of_packets (codes "--ts") 4294967295 0
 
 abbrev pub seq : Row
-seq = row (codes "--seq") (Numbers 0 65535) (Some 0) numbering
+seq = of_packets (codes "--seq") 65535 0
 
 -- what a listing shows, and the mode that its desk starts at
 abbrev pub show : Row
@@ -137,13 +149,13 @@ abbrev pub modes : Row
 modes = row (codes "--modes") ModeLists None (answer_name ∷ [])
 
 abbrev pub crc : Row
-crc = row (codes "--crc") (Numbers 0 1) (Some 1) (answer_name ∷ [])
+crc = up_to (codes "--crc") 1
 
 abbrev pub sorting : Row
-sorting = row (codes "--sorting") (Numbers 0 1) (Some 1) (answer_name ∷ [])
+sorting = up_to (codes "--sorting") 1
 
 abbrev pub interleaving : Row
-interleaving = row (codes "--interleaving") (Numbers 0 65535) (Some 65535) (answer_name ∷ [])
+interleaving = up_to (codes "--interleaving") 65535
 
 abbrev pub port : Row
 port = row (codes "--port") (Numbers 1 65535) (Some 9) (answer_name ∷ [])
