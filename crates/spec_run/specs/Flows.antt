@@ -14,23 +14,21 @@ pub record Flow : Type 0 where
   pub faults : ℕ
   pub faults' : ℕ
 
+abbrev flow : {A : Type 0} → (A → Option (List ℕ)) → (A → ℕ) → A → A → Flow
+flow told faults old new = record {
+  told = told old;
+  told' = told new;
+  faults = faults old;
+  faults' = faults new;
+}
+
 -- what was read from a source
 abbrev pub read_from : {A : Type 0} → source.Ghosts A → A → A → Flow
-read_from s old new = record {
-  told = s.left old;
-  told' = s.left new;
-  faults = s.faults old;
-  faults' = s.faults new;
-}
+read_from s old new = flow s.left s.faults old new
 
 -- what was written to a sink
 abbrev pub written_to : {A : Type 0} → sink.Ghosts A → A → A → Flow
-written_to s old new = record {
-  told = s.got old;
-  told' = s.got new;
-  faults = s.faults old;
-  faults' = s.faults new;
-}
+written_to s old new = flow s.got s.faults old new
 
 -- the count rose; it is as before
 abbrev pub Failed : Flow → Type 0
