@@ -1,0 +1,4 @@
+pub mod Copies
+pub mod Counts
+pub mod Release
+pub mod Segments
