@@ -1,0 +1,11 @@
+pub mod Accepting
+pub mod Alone
+pub mod Beginning
+pub mod Counting
+pub mod Fronts
+pub mod Growing
+pub mod Keeping
+pub mod Placing
+pub mod Recording
+pub mod Single
+pub mod Steps

@@ -1,0 +1,4 @@
+pub mod Kept
+pub mod One
+pub mod Placed
+pub mod Recorded
