@@ -1,5 +1,6 @@
 -- Each segment is a session of its own: all of its packets are accepted where they come alone.
-use Rattle.std.proofs.Common.{◌≡◌, true, false, cond, List, [], ◌∷◌, ◌++◌, sym, refl, ap, ◌∙◌, subst, Option, Some, None, ℤ, pos, ◌+ℤ◌, eqb}
+use Rattle.std.proofs.Common.{◌≡◌, true, false, cond, List, [], ◌∷◌, ◌++◌, sym, refl, ap, ◌∙◌, subst, Option, Some}
+use Rattle.std.proofs.Common.{None, ℤ, pos, ◌+ℤ◌, eqb}
 use Rattle.std.specs.Prelude.{⊤, int_le, fold}
 use Rattle.std.specs.List.{AllByRecursion}
 use Rattle.std.proofs.lemmas.List.{map-append}
@@ -12,7 +13,8 @@ use Rattle.spec_segments.specs.Segments.{Segments, all_of, at_start, segments, w
 use Rattle.spec_session.specs.Packets.{Packet}
 use Rattle.spec_session.specs.Places.{apart, place_near}
 use Rattle.spec_session.specs.Session as session
-use Rattle.spec_session.specs.Session.{Rules, Accepted, Verdict, Accept, OtherSource, OffGrid, FarAhead, at_place, greatest_last, last_place, later, taken, verdict, within_reach}
+use Rattle.spec_session.specs.Session.{Rules, Accepted, Verdict, Accept, OtherSource, OffGrid, FarAhead, at_place}
+use Rattle.spec_session.specs.Session.{greatest_last, last_place, later, taken, verdict, within_reach}
 
 -- what a verdict accepts is the packet
 abbrev Of : Packet → Verdict → Type 0

@@ -5,7 +5,8 @@ use Rattle.std.proofs.lemmas.List.{length-append}
 use Rattle.std.proofs.lemmas.List.Sums.{fold-append}
 use Rattle.segment_laws.proofs.Single.{closes_more, closings}
 use Rattle.segment_laws.specs.One.{IsOneSegment, NoneBegins}
-use Rattle.spec_segments.specs.Segments.{Segments, SegmentVerdict, Begins, Within, at_start, passed, segments, verdict, with_packet}
+use Rattle.spec_segments.specs.Segments.{Segments, SegmentVerdict, Begins, Within, at_start, passed, segments, verdict}
+use Rattle.spec_segments.specs.Segments.{with_packet}
 use Rattle.spec_session.specs.Packets.{Packet}
 use Rattle.spec_session.specs.Session.{Rules, Accepted, Accept, OtherSource, OffGrid, FarAhead}
 

@@ -63,7 +63,7 @@ keeps_segments rules h more =
     (all_alone rules (h ++ more))
 
 -- all accepted packets are those of all segments
-accepted_all : (s : Segments) → accepted_of s ≡ flat_map (λ segment. segment) (all_of s)
+pub accepted_all : (s : Segments) → accepted_of s ≡ flat_map (λ segment. segment) (all_of s)
 accepted_all s =
     ap (λ xs. flat_map (λ segment. segment) s.closed ++ xs) (sym (append-nil s.last))
     ∙ sym (flat_map-append (λ segment. segment) s.closed (s.last ∷ []))

@@ -1,11 +1,14 @@
 pub mod Accepting
 pub mod Alone
 pub mod Beginning
+pub mod Causes
 pub mod Counting
 pub mod Fronts
 pub mod Growing
+pub mod Judging
 pub mod Keeping
 pub mod Placing
 pub mod Recording
 pub mod Single
+pub mod Sourced
 pub mod Steps

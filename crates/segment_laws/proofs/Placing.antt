@@ -1,5 +1,6 @@
 -- Where the packets of a segment stand.
-use Rattle.std.proofs.Common.{◌≡◌, inl, inr, Bool, true, false, cond, List, [], ◌∷◌, ◌++◌, sym, refl, ap, ◌∙◌, subst, arith, Option, Some, None, ℤ, pos, ◌+ℤ◌}
+use Rattle.std.proofs.Common.{◌≡◌, inl, inr, Bool, true, false, cond, List, [], ◌∷◌, ◌++◌, sym, refl, ap, ◌∙◌, subst}
+use Rattle.std.proofs.Common.{arith, Option, Some, None, ℤ, pos, ◌+ℤ◌}
 use Rattle.std.specs.Prelude.{⊤, ◌≤ℤ◌, int_le, fold}
 use Rattle.std.specs.List.{AllByRecursion}
 use Rattle.std.proofs.lemmas.Int.{ints}
@@ -14,7 +15,8 @@ use Rattle.session_laws.proofs.Places.{found, only}
 use Rattle.spec_segments.specs.Segments.{Segments, all_of, at_start, segments, with_packet}
 use Rattle.spec_session.specs.Packets.{Packet}
 use Rattle.spec_session.specs.Places.{apart, place_near}
-use Rattle.spec_session.specs.Session.{Rules, Accepted, Verdict, Accept, OtherSource, OffGrid, FarAhead, at_place, begun, greatest_last, last_place, later, verdict, within_reach}
+use Rattle.spec_session.specs.Session.{Rules, Accepted, Verdict, Accept, OtherSource, OffGrid, FarAhead, at_place}
+use Rattle.spec_session.specs.Session.{begun, greatest_last, last_place, later, verdict, within_reach}
 
 -- what a verdict on a later packet tells of one that is accepted
 record Told (rules : Rules) (start : Packet) (h : ℤ) (x : Packet) (a : Accepted) : Type 0 where

@@ -3,7 +3,8 @@ use Rattle.std.proofs.Common.{◌≡◌, ℕ, true, false, cond, [], ◌∷◌, 
 use Rattle.spec_segments.specs.Segments.{Segments, Begins, Within, follows, judged, passed, with_packet}
 use Rattle.spec_session.specs.Packets.{Packet}
 use Rattle.spec_session.specs.Session as session
-use Rattle.spec_session.specs.Session.{Rules, Accepted, Verdict, Accept, OtherSource, OffGrid, FarAhead, at_place, begun, greatest_last, last_place, later, taken, within_reach}
+use Rattle.spec_session.specs.Session.{Rules, Accepted, Verdict, Accept, OtherSource, OffGrid, FarAhead, at_place}
+use Rattle.spec_session.specs.Session.{begun, greatest_last, last_place, later, taken, within_reach}
 
 -- the segments where a packet joins the last one, begins another, or leaves them as they are
 abbrev pub with_one : Segments → Accepted → Segments

@@ -10,7 +10,3 @@ use Rattle.spec_session.specs.Session.{Rules}
 -- the copies in time of each segment of a list of well-formed packets
 abbrev pub copies : Rules → List Packet → List (List Copy)
 copies rules h = map (copies_of rules) (all_of (segments rules h))
-
--- those of the last segment
-abbrev pub last_copies : Rules → List Packet → List Copy
-last_copies rules h = copies_of rules (segments rules h).last
