@@ -32,7 +32,8 @@ pub fn segments_go_on()
         ≡ record { place = 1; late = 0; copies = 1; blocks = 2 } }
     ensures late { counts narrow (off_grid ++ at 4 641 ++ at 3 481)
         ≡ record { place = 1; late = 1; copies = 0; blocks = 4 } }
-    ensures closed { counts narrow (at 0 0 ++ at 1 0 ++ at 2 480 ++ at 3 160 ++ at 4 161 ++ at 5 321)
+    ensures closed { let first = at 0 0 ++ at 1 0 ++ at 2 480 ++ at 3 160 in
+        counts narrow (first ++ at 4 161 ++ at 5 321)
         ≡ record { place = 1; late = 1; copies = 1; blocks = 5 } }
     ensures third_segment { sizes (off_grid ++ at 3 481 ++ at 4 642 ++ at 5 802) ≡ 1 ∷ 2 ∷ 1 ∷ [] }
 {}
