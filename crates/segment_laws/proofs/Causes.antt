@@ -2,7 +2,7 @@
 use Rattle.std.proofs.Common.{◌≡◌, List, ◌∷◌, sym, ap, ◌∙◌, subst, ℤ}
 use Rattle.std.specs.Prelude.{◌↔◌}
 use Rattle.segment_laws.proofs.Judging.{far_unfit, makes}
-use Rattle.segment_laws.specs.Judged.{Fits, IsFarAhead, Makes, put}
+use Rattle.segment_laws.specs.Judged.{IsAccepted, IsFarAhead, Makes, put}
 use Rattle.session_laws.proofs.Places.{one_place}
 use Rattle.spec_segments.specs.Segments.{SegmentVerdict, Segments, Begins, Within, verdict}
 use Rattle.spec_session.specs.Packets.{Packet}
@@ -10,7 +10,7 @@ use Rattle.spec_session.specs.Session.{Rules, Accepted, Accept, OtherSource, Off
 use Rattle.spec_session.specs.Session.{greatest_last, last_place}
 
 one_accepted : (rules : Rules) (start : Accepted) (joined : List Accepted) (x : Packet) (a b : Accepted) →
-    Fits rules start joined x a → Fits rules start joined x b → a ≡ b
+    IsAccepted rules start joined x a → IsAccepted rules start joined x b → a ≡ b
 one_accepted rules start joined x a b f g =
     let h = greatest_last rules start joined in
     let same = one_place rules.codec start.packet.timestamp x.timestamp h a.place b.place f.place g.place in
@@ -28,12 +28,12 @@ one_far rules s start joined x h l i m f g =
 one_verdict : (rules : Rules) (s : Segments) (start : Accepted) (joined : List Accepted) (x : Packet) →
     (v w : SegmentVerdict) → Makes rules s start joined x v → Makes rules s start joined x w → v ≡ w
 one_verdict rules s start joined x (Begins a) (Begins b) m n = ap Begins (m.is ∙ sym n.is)
-one_verdict rules s start joined x (Begins a) (Within (Accept b)) m n = absurd (m.unfit b n)
+one_verdict rules s start joined x (Begins a) (Within (Accept b)) m n = absurd (m.refused b n)
 one_verdict rules s start joined x (Begins a) (Within (OtherSource k g)) m n = absurd (n.source m.source)
 one_verdict rules s start joined x (Begins a) (Within (OffGrid d)) m n = absurd (let p = m.next in let q = n.next in cc)
 one_verdict rules s start joined x (Begins a) (Within (FarAhead h l)) m n =
     absurd (let p = m.next in let q = n.next in cc)
-one_verdict rules s start joined x (Within (Accept a)) (Begins b) m n = absurd (n.unfit a m)
+one_verdict rules s start joined x (Within (Accept a)) (Begins b) m n = absurd (n.refused a m)
 one_verdict rules s start joined x (Within (Accept a)) (Within (Accept b)) m n =
     ap (λ c. Within (Accept c)) (one_accepted rules start joined x a b m n)
 one_verdict rules s start joined x (Within (Accept a)) (Within (OtherSource k g)) m n = absurd (n.source m.source)

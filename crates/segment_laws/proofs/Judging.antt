@@ -5,7 +5,7 @@ use Rattle.std.specs.Prelude.{◌<ℤ◌, int_le}
 use Rattle.std.proofs.lemmas.Bool.Decides.{eqb_tells}
 use Rattle.std.proofs.lemmas.Int.{ints}
 use Rattle.amr_frame.specs.Tables.{ticks}
-use Rattle.segment_laws.specs.Judged.{Fits, IsOther, Makes, farthest, put}
+use Rattle.segment_laws.specs.Judged.{IsAccepted, IsOther, Makes, farthest, put}
 use Rattle.segment_laws.specs.Placed.{IsPlaceIn}
 use Rattle.session_laws.proofs.Places.{found, one_place, only}
 use Rattle.spec_segments.specs.Segments.{Segments, Begins, Within, follows, judged, verdict}
@@ -35,7 +35,7 @@ record Far (rules : Rules) (start : Accepted) (joined : List Accepted) (x : Pack
   horizon : h ≡ greatest_last rules start joined
 
 abbrev MakesWithin : Rules → Accepted → List Accepted → Packet → Verdict → Type 0
-MakesWithin rules start joined x (Accept a) = Fits rules start joined x a
+MakesWithin rules start joined x (Accept a) = IsAccepted rules start joined x a
 MakesWithin rules start joined x (OtherSource k g) = IsOther start x k g
 MakesWithin rules start joined x (OffGrid d) = Off rules start joined x d
 MakesWithin rules start joined x (FarAhead h l) = Far rules start joined x h l
@@ -88,7 +88,7 @@ makes_later rules start joined x =
 pub far_unfit : (rules : Rules) (start : Accepted) (joined : List Accepted) (x : Packet) (u l : ℤ) (b : Accepted) →
     IsPlaceIn rules start joined x u → l ≡ last_place rules (put rules start joined x u) → farthest rules start joined
     <ℤ l →
-    Fits rules start joined x b → ⊥
+    IsAccepted rules start joined x b → ⊥
 far_unfit rules start joined x u l b p e past f =
     let h = greatest_last rules start joined in
     let same : b.place ≡ u = one_place rules.codec start.packet.timestamp x.timestamp h b.place u f.place p in
@@ -103,14 +103,14 @@ makes_judged rules s start joined x (OtherSource k g) m = m
 makes_judged rules s start joined x (OffGrid d) m =
     let f = follows s.stray x.sequence in
     elim f as (λ b. f ≡ b → Makes rules s start joined x (cond b (Begins (begun x)) (Within (OffGrid d)))) [
-      | true ↦ λ e. record { source = m.source; unfit = λ b g. m.unplaced b.place g.place; next = e; is = refl }
+      | true ↦ λ e. record { source = m.source; refused = λ b g. m.unplaced b.place g.place; next = e; is = refl }
       | false ↦ λ e. record { source = m.source; unplaced = m.unplaced; next = e; delta = m.delta }
     ] refl
 makes_judged rules s start joined x (FarAhead h l) m =
     let f = follows s.stray x.sequence in
     let unfit = far_unfit rules start joined x m.at l in
     elim f as (λ b. f ≡ b → Makes rules s start joined x (cond b (Begins (begun x)) (Within (FarAhead h l)))) [
-      | true ↦ λ e. record { source = m.source; unfit = λ b g. unfit b m.place m.last m.past g; next = e; is = refl }
+      | true ↦ λ e. record { source = m.source; refused = λ b g. unfit b m.place m.last m.past g; next = e; is = refl }
       | false ↦ λ e. record {
         source = m.source;
         at = m.at;

@@ -18,19 +18,19 @@ put rules start joined x u =
 abbrev pub farthest : Rules → Accepted → List Accepted → ℤ
 farthest rules start joined = greatest_last rules start joined +ℤ pos rules.reach
 
--- the segment accepts it: it is of the source, it has a place, and its last place is within reach
-pub record Fits (rules : Rules) (start : Accepted) (joined : List Accepted) (x : Packet)
+-- accepted in the segment: it is of the source, it has a place, and its last place is within reach
+pub record IsAccepted (rules : Rules) (start : Accepted) (joined : List Accepted) (x : Packet)
     (a : Accepted) : Type 0 where
   pub source : x.ssrc ≡ start.packet.ssrc
   pub place : IsPlaceIn rules start joined x a.place
   pub is : a ≡ put rules start joined x a.place
   pub reach : last_place rules a ≤ℤ farthest rules start joined
 
--- it begins a segment: it is of the source, doesn't fit, and follows the stray
-pub record Opens (rules : Rules) (s : Segments) (start : Accepted) (joined : List Accepted)
+-- begun with it: it is of the source, isn't accepted, and follows the stray
+pub record IsBegun (rules : Rules) (s : Segments) (start : Accepted) (joined : List Accepted)
     (x : Packet) (a : Accepted) : Type 0 where
   pub source : x.ssrc ≡ start.packet.ssrc
-  pub unfit : (b : Accepted) → Fits rules start joined x b → ⊥
+  pub refused : (b : Accepted) → IsAccepted rules start joined x b → ⊥
   pub next : follows s.stray x.sequence ≡ true
   pub is : a ≡ begun x
 
@@ -63,8 +63,8 @@ pub record IsFarAhead (rules : Rules) (s : Segments) (start : Accepted) (joined 
 
 -- what makes a verdict
 abbrev pub Makes : Rules → Segments → Accepted → List Accepted → Packet → SegmentVerdict → Type 0
-Makes rules s start joined x (Begins a) = Opens rules s start joined x a
-Makes rules s start joined x (Within (Accept a)) = Fits rules start joined x a
+Makes rules s start joined x (Begins a) = IsBegun rules s start joined x a
+Makes rules s start joined x (Within (Accept a)) = IsAccepted rules start joined x a
 Makes rules s start joined x (Within (OtherSource kept got)) = IsOther start x kept got
 Makes rules s start joined x (Within (OffGrid delta)) = IsOffGrid rules s start joined x delta
 Makes rules s start joined x (Within (FarAhead h last)) = IsFarAhead rules s start joined x h last

@@ -2,9 +2,9 @@ ghost use Rattle.segment_laws.specs.One.{IsOneSegment, NoneBegins, without_refus
 ghost use Rattle.spec_segments.specs.Counts.{block_count, copy_count, late_count};
 ghost use Rattle.spec_segments.specs.Release.{gone_out, released};
 ghost use Rattle.spec_segments.specs.Segments.{accepted};
-ghost use Rattle.spec_session.specs.Counts as count;
+ghost use Rattle.spec_session.specs.Counts as session_counts;
 ghost use Rattle.spec_session.specs.Packets.{Packet};
-ghost use Rattle.spec_session.specs.Release as release;
+ghost use Rattle.spec_session.specs.Release as session_release;
 ghost use Rattle.spec_session.specs.Session as session;
 ghost use Rattle.spec_session.specs.Session.{Rules};
 ghost use Rattle.std.specs.Prelude.{◌↔◌, ◌≡◌, List, length};
@@ -20,15 +20,15 @@ pub fn one_segment_is_a_session()
     ensures accepted { (rules : Rules) (h : List Packet) → IsOneSegment rules h
         → accepted rules h ≡ session.accepted rules h }
     ensures released { (rules : Rules) (h : List Packet) → IsOneSegment rules h
-        → released rules h ≡ release.released rules h }
+        → released rules h ≡ session_release.released rules h }
     ensures gone { (rules : Rules) (h : List Packet) → IsOneSegment rules h
-        → gone_out rules h ≡ release.gone_out rules h }
+        → gone_out rules h ≡ session_release.gone_out rules h }
     ensures late { (rules : Rules) (h : List Packet) → IsOneSegment rules h
-        → late_count rules h ≡ count.late_count rules h }
+        → late_count rules h ≡ session_counts.late_count rules h }
     ensures copies { (rules : Rules) (h : List Packet) → IsOneSegment rules h
-        → copy_count rules h ≡ count.copy_count rules h }
+        → copy_count rules h ≡ session_counts.copy_count rules h }
     ensures blocks { (rules : Rules) (h : List Packet) → IsOneSegment rules h
-        → block_count rules h ≡ count.block_count rules h }
+        → block_count rules h ≡ session_counts.block_count rules h }
 {}
 
 /// Where all packets are accepted without segments, none but the first begins one.
