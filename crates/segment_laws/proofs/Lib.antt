@@ -8,6 +8,7 @@ pub mod Growing
 pub mod Judging
 pub mod Keeping
 pub mod Placing
+pub mod Putting
 pub mod Recording
 pub mod Single
 pub mod Sourced
