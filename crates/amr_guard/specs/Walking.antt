@@ -15,8 +15,8 @@ AreNext lengths frame places =
     (length places ≡ 60)
     × ((octet : ℕ) → octet < 60 → slice_index places octet ≡ next_place lengths frame octet)
 
--- a walk has passed the first `octet` octets of frame `frame`, which may be all that it has: by their
--- numbers, the next ones go to these places
+-- a walk has passed the first `octet` octets of frame `frame`, which may be all that it has: the
+-- next ones go to these places, by their numbers
 pub record StandsAt (lengths : List ℕ) (frame octet : ℕ) (places : List ℕ) : Type 0 where
   pub passed : octet ≤ slice_index lengths frame
   pub size : length places ≡ 60
