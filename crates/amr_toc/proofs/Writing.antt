@@ -21,16 +21,14 @@ at_first old begun all = record { bits = refl; size = refl; filled_so = λ h. ab
 same_later : (now old : List ℕ) (m n : ℕ) → m ≤ n → drop m now ≡ drop m old → drop n now ≡ drop n old
 same_later now old m n h e =
     let there : m + (n - m) ≡ n = omega arith in
-    ap (λ (x : ℕ). drop x now) (sym there) ∙ sym (drop-drop (n - m) m now) ∙ ap (drop (n - m)) e ∙ drop-drop (n - m) m
-    old
-    ∙ ap (λ (x : ℕ). drop x old) there
+    ap (λ (x : ℕ). drop x now) (sym there) ∙ sym (drop-drop (n - m) m now) ∙ ap (drop (n - m)) e
+    ∙ drop-drop (n - m) m old ∙ ap (λ (x : ℕ). drop x old) there
 
 -- one step, which writes the front of what is left
-pub next_step : {old : List ℕ} {begun : ℕ} {all : List Bool} {now : List ℕ} {written : ℕ} {from : List Bool} {k : ℕ} {new : List ℕ} {end : ℕ}
-    (piece rest : List Bool) → from ≡ piece ++ rest → Between old begun all now written from k → WrittenBehind now
-    written piece new end
+pub next_step : {old now new : List ℕ} {all from : List Bool} {begun written end k : ℕ} (piece rest : List Bool)
+    → from ≡ piece ++ rest → Between old begun all now written from k → WrittenBehind now written piece new end
     → written ≤ end → length new ≡ length now → Between old begun all new end rest (k + 1)
-next_step {old} {begun} {all} {now} {written} {from} {k} {new} {end} piece rest f b w h l = record {
+next_step {old} {now} {new} {all} {from} {begun} {written} {end} {k} piece rest f b w h l = record {
   bits = ap (λ (xs : List Bool). xs ++ rest) w.bits ∙ append_assoc (front now written) piece rest
       ∙ ap (λ (xs : List Bool). front now written ++ xs) (sym f) ∙ b.bits;
   size = l ∙ b.size;

@@ -9,8 +9,8 @@ bounds-out-place c =
 
 pub loop-at-preserved : goal.loop-at-preserved
 loop-at-preserved c =
-    put_on c.args.plain.now c.loop-at.out c.loop-at.invariant c.next_place-place.ensures.place c.next_place-place.ensures.stands
-    c.next_place-place.ensures.passed
+    put_on c.args.plain.now c.loop-at.out c.loop-at.invariant c.next_place-place.ensures.place
+    c.next_place-place.ensures.stands c.next_place-place.ensures.passed
 
 pub returns-clause-octets : goal.returns-clause-octets
 returns-clause-octets c =

@@ -9,8 +9,8 @@ bounds-sorted-place c =
 
 pub loop-at-preserved : goal.loop-at-preserved
 loop-at-preserved c =
-    take_on c.loop-at.out c.args.sorted.now c.loop-at.invariant c.next_place-place.ensures.place c.next_place-place.ensures.stands
-    c.next_place-place.ensures.passed
+    take_on c.loop-at.out c.args.sorted.now c.loop-at.invariant c.next_place-place.ensures.place
+    c.next_place-place.ensures.stands c.next_place-place.ensures.passed
 
 pub returns-clause-octets : goal.returns-clause-octets
 returns-clause-octets c =
