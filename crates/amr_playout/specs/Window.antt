@@ -1,8 +1,8 @@
 -- The cells of a window, block by block and within a block in channel order. This project's own.
-use Rattle.std.specs.Prelude.{ℕ, ◌*◌, ◌/◌, ◌%◌, ◌^◌, List, length, map, slice_index_or, ℤ, pos, ◌+ℤ◌, ◌-ℤ◌, Option, None}
+use Rattle.std.specs.Prelude.{ℕ, ◌*◌, ◌/◌, ◌%◌, ◌^◌, List, length, map, replicate, slice_index_or, ℤ, pos, ◌+ℤ◌, ◌-ℤ◌, Option, None}
 use Rattle.std.specs.List.{range_with_len}
 use Rattle.amr_frame.specs.Cells.{held}
-use Rattle.amr_frame.specs.Frames.{Frame}
+use Rattle.amr_frame.specs.Frames.{Frame, no_data}
 use Rattle.amr_frame.specs.declared.cell.Cell.{Cell}
 use Rattle.spec_session.specs.Copies.{Copy}
 use Rattle.spec_session.specs.Quality.{stored}
@@ -33,6 +33,10 @@ row channels xs i = map stored (map (item xs) (range_with_len (i * channels) cha
 -- n blocks from block i on
 abbrev pub rows : ℕ → List (Option Frame) → ℕ → ℕ → List (List Frame)
 rows channels xs i n = map (row channels xs) (range_with_len i n)
+
+-- so many blocks of frame times for which nothing came
+abbrev pub missing : ℕ → ℕ → List (List Frame)
+missing channels count = replicate count (replicate channels no_data)
 
 -- the first place of a window whose last place is the horizon
 abbrev pub base_of : Rules → ℤ → ℤ

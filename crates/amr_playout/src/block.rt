@@ -6,7 +6,7 @@ ghost use Rattle.amr_frame.specs.Steps.{BlockStep, TakesBlocks};
 ghost use Rattle.amr_frame.specs.declared.codec.Codec.{Codec};
 ghost use Rattle.amr_playout.specs.Ring.{KeepsRing};
 ghost use Rattle.amr_playout.specs.Steps.{CanPush, PutsBlock, TakesBlock};
-ghost use Rattle.amr_playout.specs.Window.{held_of};
+ghost use Rattle.amr_playout.specs.Window.{held_of, missing};
 ghost use Rattle.spec_session.specs.Quality.{stored};
 
 use crate::ring::{fill_front, push_absent};
@@ -81,10 +81,9 @@ pub fn put_no_data<B: BlockSink>(channels: usize, count: u64, out: &mut B) -> Re
     requires few { channels ≤ 6 }
     requires sink { TakesBlocks B.BlockSink (B.codec out.old) channels out.old }
 
-    ensures out { OnOk result (GotBlocks B.whole out.old
-        (replicate count (replicate channels no_data)) out.new) }
-    ensures part { OnErr result (GotPrefix B.whole B.part out.old
-        (replicate count (replicate channels no_data)) out.new) }
+    ensures out { OnOk result (GotBlocks B.whole out.old (missing channels count) out.new) }
+    ensures part { OnErr result
+        (GotPrefix B.whole B.part out.old (missing channels count) out.new) }
     ensures step { BlockStep B.BlockSink out.old out.new result }
 {
     let block = missing_block(channels);

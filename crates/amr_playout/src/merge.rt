@@ -87,6 +87,7 @@ fn merge_past(
     }
 }
 
+/// The lower of two places.
 fn lower(a: u64, b: u64) -> u64
     ensures { result ≡ min a b }
 {

@@ -47,6 +47,7 @@ fn advance<B: BlockSink>(
     let channels = usize::from(plan.profile.channels);
     let pass = count.min(u64::from(plan.window));
     put_held(ring, plan.profile.codec, channels, skip, pass, out)?;
+    // On the way of most packets nothing is missing, and then no block is made for it.
     if pass == count {
         return Ok(());
     }
