@@ -14,7 +14,7 @@ use Rattle.run_report.specs.Ends.{IsFinished}
 use Rattle.run_report.specs.Lines.{notes_of}
 use Rattle.run_report.specs.declared.end.RunEnd.{RunEnd}
 use Rattle.run_report.specs.declared.end.RunEnd.TheVariants as end
-use Rattle.spec_run.specs.Flows.{Calm, Failed, FaultsOf}
+use Rattle.spec_run.specs.Flows.{Failed, FaultsOf}
 use Rattle.spec_run.specs.Meanings.{Leaves, Meaning, Served}
 
 -- what the run of a job did is what the job of the words means

@@ -1,5 +1,5 @@
 -- What came of a run, by its end, its notes and its status.
-use Rattle.std.proofs.Common.{◌≡◌, ℕ, ◌<◌, ap, sym, subst, ◌∙◌, refl, inl, inr, ◌⊎◌, arith}
+use Rattle.std.proofs.Common.{◌≡◌, ◌<◌, ap, sym, subst, ◌∙◌, refl, inl, inr, arith}
 use Rattle.amr_cli.specs.Statuses.{EndsAs, but_notes, status_for}
 use Rattle.amr_cli.specs.declared.status.Status.{Status}
 use Rattle.amr_cli.specs.declared.status.Status.TheVariants as status

@@ -23,7 +23,6 @@ use Rattle.run_report.specs.declared.end.RunEnd.{RunEnd}
 use Rattle.spec_packet.specs.Log.{IsPartial, log_of}
 use Rattle.spec_run.specs.Flows.{read_from}
 use Rattle.spec_run.specs.LogRuns.{MOST_HELD, RecordsJob}
-use Rattle.spec_run.specs.Meanings.{IsPrefix}
 
 -- nothing waits, and no record was handled since the last read
 pub record Idle (waiting : List ℕ) (last : List (List ℕ)) : Type 0 where

@@ -1,6 +1,6 @@
 -- What is written while more records may come is a front of what is written in the end.
-use Rattle.std.proofs.Common.{◌≡◌, ℕ, List, [], ◌∷◌, ◌++◌, sym, refl, ap, ◌∙◌, append_assoc, Option, Some, None, ℤ, pos, ◌-ℤ◌}
-use Rattle.std.specs.Prelude.{filter_map, flat_map}
+use Rattle.std.proofs.Common.{◌≡◌, ℕ, List, [], ◌∷◌, ◌++◌, sym, refl, ap, ◌∙◌, append_assoc, Option, Some, None, ℤ}
+use Rattle.std.specs.Prelude.{flat_map}
 use Rattle.std.proofs.lemmas.List.Concat.{flat_map-append}
 use Rattle.std.proofs.lemmas.List.Elements.{filter_map-append}
 use Rattle.amr_frame.specs.Frames.{Frame}
@@ -8,7 +8,7 @@ use Rattle.session_laws.proofs.Sessions.{goes_on_from, released_grows, released_
 use Rattle.spec_record.specs.Recording.{Recording, early_of, file_of}
 use Rattle.spec_session.specs.Copies.{copies}
 use Rattle.spec_session.specs.Packets.{Packet, packet_of, packets_of}
-use Rattle.spec_session.specs.Release.{gone_at, gone_out, released, released_up_to}
+use Rattle.spec_session.specs.Release.{gone_at, gone_out, released}
 use Rattle.spec_session.specs.Session.{Accepted, Rules, accepted, greatest_last, horizon, horizon_of}
 use Rattle.spec_store.specs.StorageFile.{block_text, header, storage_file}
 

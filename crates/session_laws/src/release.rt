@@ -1,10 +1,9 @@
 ghost use Rattle.session_laws.specs.Later.{Later};
-ghost use Rattle.spec_session.specs.Copies.{Copy};
 ghost use Rattle.spec_session.specs.Packets.{Packet};
 ghost use Rattle.spec_session.specs.Release.{released, released_up_to};
 ghost use Rattle.spec_session.specs.Session.{Accepted, Rules, accepted, horizon};
 ghost use Rattle.std.specs.List.{AllByRecursion};
-ghost use Rattle.std.specs.Prelude.{◌++◌, ◌-ℤ◌, ◌≡◌, List, Some, pos, ℕ, ℤ};
+ghost use Rattle.std.specs.Prelude.{◌++◌, ◌-ℤ◌, ◌≡◌, List, Some, pos, ℤ};
 ghost use Rattle.amr_frame.specs.Frames.{Frame};
 
 /// A longer session keeps the accepted packets of a shorter one, and those after it come at its horizon or later.

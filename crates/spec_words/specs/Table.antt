@@ -1,5 +1,5 @@
 -- The table of the options of the command line: this project's own.
-use Rattle.std.specs.Prelude.{ℕ, List, [], ◌∷◌, ◌++◌, Option, Some, None, codes}
+use Rattle.std.specs.Prelude.{ℕ, List, [], ◌∷◌, Option, Some, None, codes}
 
 -- the values that an option may have: the names of the codecs; the numbers from the least to the
 -- greatest; the texts of media parameters; one of the modes that those of `--fmtp` leave; the lists

@@ -4,7 +4,7 @@ use Rattle.std.specs.Prelude.{◌&&◌, nat_eq, slice_index, sum}
 use Rattle.std.specs.List.{fold, range_with_len}
 use Rattle.std.specs.Option.{option_map}
 use Rattle.std.proofs.lemmas.Bool.{eq-eqb, ltb-false, ne_eqb}
-use Rattle.std.proofs.lemmas.List.{append-nil, length-append, length-drop, length-map, length-take, map-append, take-append-drop}
+use Rattle.std.proofs.lemmas.List.{append-nil, length-append, length-drop, length-map, map-append}
 use Rattle.std.proofs.lemmas.List.Sums.{fold-append, sum-map}
 use Rattle.std.proofs.lemmas.List.Concat.{flat_map-append, length-flat_map}
 use Rattle.std.proofs.lemmas.Nat.{div-add-mod', div-mul-add, mod-mul-add}

@@ -1,4 +1,4 @@
-use Rattle.std.proofs.Common.{◌∙◌, rules, sym}
+use Rattle.std.proofs.Common.{◌∙◌, sym}
 use Rattle.amr_cli.proofs.Clauses.{asked, leaves_input, notes_fault, notes_part, puts_out, read_always, stops_reading, stops_writing, whole_notes, write_always}
 use Rattle.amr_cli.proofs.run.run_gateway.Goals as goal
 
