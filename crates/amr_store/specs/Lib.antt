@@ -1,2 +1,5 @@
 pub mod SinkLaws
 pub mod Written
+pub mod Sights
+pub mod Reading
+pub mod Seeking

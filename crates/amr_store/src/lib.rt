@@ -1,10 +1,16 @@
-//! Storage files of AMR and AMR-WB frames (RFC 4867, 5), written block by block.
+//! Storage files of AMR and AMR-WB frames (RFC 4867, 5), written and read block by block.
 #![tactic(auto)]
 
+mod block;
 mod frame;
+mod header;
+mod reader;
+mod step;
 mod writer;
 
+pub use reader::StoreReader;
 pub use spec_store::StoreRefusal;
+pub use step::{Phase, Step};
 pub use writer::{Stage, StoreWriter, write_cells};
 
 #[cfg(test)]
