@@ -5,3 +5,6 @@ pub mod FrameFirst
 pub mod HeaderShown
 pub mod FrameRead
 pub mod Looked
+pub mod Ahead
+pub mod Wrong
+pub mod Settled

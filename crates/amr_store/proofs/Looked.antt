@@ -1,10 +1,11 @@
 -- What a reader sees of the octets held, while it reads on.
 use Rattle.std.proofs.Common.{◌≡◌, ℕ, ◌+◌, ◌-◌, ◌*◌, ◌^◌, ◌<◌, ◌≤◌, List, ◌++◌, ◌⊎◌, inl, inr, [], length, refl, sym, subst, ap, ◌∙◌, arith, length-append, append-nil}
-use Rattle.std.specs.Prelude.{Option, Some, None, Ok}
+use Rattle.std.specs.Prelude.{Option, Some, None, Result, Ok, Err}
 use Rattle.std.specs.Io.KnownBytes.{Consumes, IsAtEnd, Keeps}
 use Rattle.std.proofs.KnownBytes.{Consumes-kept}
 use Rattle.amr_io.specs.declared.source.Source as source
 use Rattle.std.proofs.lemmas.List.{length-drop}
+use Rattle.amr_io.specs.declared.source.Failed.{Failed}
 use Rattle.amr_frame.specs.declared.codec.Codec.{Codec}
 use Rattle.amr_store.specs.declared.reader.StoreReader.{StoreReader}
 use Rattle.amr_store.specs.declared.step.Phase.{Phase}
@@ -15,7 +16,7 @@ use Rattle.amr_store.specs.declared.step.Found.{Found}
 use Rattle.amr_store.specs.declared.step.Found.TheVariants as found
 use Rattle.amr_store.specs.Sights.{BlockPart}
 use Rattle.amr_store.specs.Reading.{Exhausts, IsSameReader, given, held, taken_of}
-use Rattle.amr_store.specs.Seeking.{Ends, EndsBy, Looks, LooksBy, LooksPart, SeeksBy, Sought}
+use Rattle.amr_store.specs.Seeking.{Ends, EndsBy, Looks, LooksBy, LooksPart, SeeksBy, Sought, len_of}
 
 -- less than a block is short
 block_short : (codec : Codec) (channels : ℕ) (octets : List ℕ) (at : ℕ) → BlockPart codec channels octets at → channels ≤ 6 → length octets < 2 ^ 16
@@ -120,3 +121,22 @@ end_sought s before mid after old now new more at f p same h read ended keeps jo
       same = same;
       cause = faults;
     }
+
+-- what was found stands in the octets held
+len_by : (p : Phase) (codec : Codec) (channels place : ℕ) (octets : List ℕ) (n : ℕ) → LooksBy p codec channels place octets (sight.Whole n) → n ≤ length octets
+len_by phase.Fresh codec channels place octets n h = h.within
+len_by phase.Open codec channels place octets n h = h.within
+len_by phase.Ended codec channels place octets n h = h.within
+len_by phase.Spent codec channels place octets n h = h.within
+
+within_by : (left left' : Option (List ℕ)) (more : List ℕ) (old mid : StoreReader) (f : Result Found Failed) → SeeksBy left left' more old f mid → len_of f ≤ length (held mid)
+within_by left left' more old mid (Ok (found.Whole n)) k = len_by old.phase old.codec old.channels (given old) (held mid) n k.1
+within_by left left' more old mid (Ok (found.Shown w)) k = omega arith
+within_by left left' more old mid (Ok (found.Cut w)) k = omega arith
+within_by left left' more old mid (Ok found.End) k = omega arith
+within_by left left' more old mid (Ok found.OverLimit) k = omega arith
+within_by left left' more old mid (Err e) k = omega arith
+
+pub found_within : {S : Type 0} (s : source.Ghosts S) (before after : S) (old mid : StoreReader) (f : Result Found Failed) → Sought s before after old f mid
+    → len_of f ≤ length (held mid)
+found_within s before after old mid f k = within_by (s.left before) (s.left after) k.seeks.0 old mid f k.seeks.1

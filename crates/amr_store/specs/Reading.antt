@@ -1,5 +1,5 @@
 -- What a reader of storage files holds, and what its calls do (RFC 4867, 5). The reader is ours.
-use Rattle.std.specs.Prelude.{◌≡◌, ◌⊎◌, ◌+◌, ◌-◌, ℕ, false, List, [], ◌∷◌, ◌++◌, length, Option, Some, None, Result, Ok, Err, IfSome}
+use Rattle.std.specs.Prelude.{◌≡◌, ◌⊎◌, ◌+◌, ◌-◌, ◌≤◌, ℕ, false, List, [], ◌∷◌, ◌++◌, length, Option, Some, None, Result, Ok, Err, IfSome}
 use Rattle.std.specs.Io.KnownBytes.{Consumes}
 use Rattle.amr_io.specs.declared.source.Failed.{Failed}
 use Rattle.amr_io.specs.declared.gate.Gate.TheVariants as gate
@@ -7,9 +7,9 @@ use Rattle.amr_frame.specs.declared.cell.Cell.{Cell}
 use Rattle.amr_frame.specs.declared.codec.Codec.{Codec}
 use Rattle.amr_frame.specs.Blocks.{IsPresentBlock, frames_of}
 use Rattle.refusals.specs.declared.store.StoreRefusal.{StoreRefusal}
+use Rattle.spec_store.specs.StorageFile.{block_text}
 use Rattle.spec_store.specs.StorageReading.{blocks_in, has_header_of, shown_refusal, store_refusal}
 use Rattle.amr_store.specs.declared.reader.StoreReader.{StoreReader}
-use Rattle.amr_store.specs.declared.step.Phase.{Phase}
 use Rattle.amr_store.specs.declared.step.Phase.TheVariants as phase
 use Rattle.amr_store.specs.declared.step.Step.{Step}
 use Rattle.amr_store.specs.declared.step.Step.TheVariants.{Ready, End, Refused, OverLimit}
@@ -28,6 +28,13 @@ limit_of r = r.inlet.limit
 -- how many octets stood in the header and the blocks that were given
 abbrev pub given : StoreReader → ℕ
 given r = r.inlet.taken - length r.inlet.held
+
+-- the codec and the channels that are asked
+abbrev pub codec_of : StoreReader → Codec
+codec_of r = r.codec
+
+abbrev pub channels_of : StoreReader → ℕ
+channels_of r = r.channels
 
 -- the header isn't read yet
 abbrev pub IsFresh : StoreReader → Type 0
@@ -49,20 +56,22 @@ IsUsable r = IsOpen r ⊎ HasEnded r
 abbrev pub IsSpent : StoreReader → Type 0
 IsSpent r = r.phase ≡ phase.Spent
 
--- how far a reader is after an answer
-abbrev pub phase_after : Result Step Failed → Phase
-phase_after (Ok Ready) = phase.Open
-phase_after (Ok End) = phase.Ended
-phase_after _ = phase.Spent
+-- what an answer leaves of a reader: blocks are given, the file ended, or no further call may be made
+abbrev pub Leaves : Result Step Failed → StoreReader → Type 0
+Leaves (Ok Ready) r = IsOpen r
+Leaves (Ok End) r = HasEnded r
+Leaves _ r = IsSpent r
 
 -- a reader reads the same codec, channels and limit as another
 pub record IsSameReader (old new : StoreReader) : Type 0 where
   pub codec : new.codec ≡ old.codec
   pub channels : new.channels ≡ old.channels
-  pub limit : new.inlet.limit ≡ old.inlet.limit
+  pub limit : limit_of new ≡ limit_of old
 
--- these octets of a file were given: a file of the codec and the channels, not refused
+-- these octets of a file were given, which are a file of the codec and the channels by themselves,
+-- and blocks are given
 pub record HasGiven (file : List ℕ) (r : StoreReader) : Type 0 where
+  pub is_open : IsOpen r
   pub is_file : store_refusal r.codec r.channels file ≡ None
   pub given_are : length file ≡ given r
 
@@ -75,22 +84,22 @@ pub record ShowsNoHeader (codec : Codec) (channels : ℕ) (file : List ℕ) : Ty
   pub shown : shown_refusal codec channels file ≡ None
   pub header : has_header_of codec channels file ≡ false
 
--- they are refused, with no header of the codec and the channels
-pub record RefusesHeader (codec : Codec) (channels : ℕ) (refusal : Option StoreRefusal)
+-- they are refused by a rule, and hold no header of the codec and the channels
+pub record RefusesHeader (codec : Codec) (channels : ℕ) (rule : List ℕ → Option StoreRefusal)
     (w : StoreRefusal) (file : List ℕ) : Type 0 where
-  pub refused : refusal ≡ Some w
+  pub refused : rule file ≡ Some w
   pub header : has_header_of codec channels file ≡ false
 
--- octets that begin with these of a file hold no block more than these, and show no fault
-pub record ShowsNothing (codec : Codec) (channels : ℕ) (file all : List ℕ) : Type 0 where
-  pub shown : shown_refusal codec channels all ≡ None
-  pub blocks : blocks_in codec channels all ≡ blocks_in codec channels file
+-- octets of a file that begins with these hold no block more than these, and show no fault
+pub record ShowsNothing (codec : Codec) (channels : ℕ) (front file : List ℕ) : Type 0 where
+  pub shown : shown_refusal codec channels file ≡ None
+  pub blocks : blocks_in codec channels file ≡ blocks_in codec channels front
 
--- they are refused, with no block more
-pub record RefusesBlock (codec : Codec) (channels : ℕ) (file : List ℕ)
-    (refusal : Option StoreRefusal) (w : StoreRefusal) (all : List ℕ) : Type 0 where
-  pub refused : refusal ≡ Some w
-  pub blocks : blocks_in codec channels all ≡ blocks_in codec channels file
+-- they are refused by a rule, and hold no block more
+pub record RefusesBlock (codec : Codec) (channels : ℕ) (front : List ℕ)
+    (rule : List ℕ → Option StoreRefusal) (w : StoreRefusal) (file : List ℕ) : Type 0 where
+  pub refused : rule file ≡ Some w
+  pub blocks : blocks_in codec channels file ≡ blocks_in codec channels front
 
 -- a header stands before the octets held
 pub record TookHeader (more : List ℕ) (old new : StoreReader) : Type 0 where
@@ -104,18 +113,17 @@ abbrev pub Begins : Option (List ℕ) → Option (List ℕ) → List ℕ → Sto
     → Result Step Failed → StoreReader → Type 0
 Begins left left' more old (Ok Ready) new = Consumes left left' more × TookHeader more old new
 Begins left left' more old (Ok End) new = ⊥
-Begins left left' more old (Ok (Refused w)) new = Consumes left left' more
-    × (held old ++ more ≡ held new)
-    × (RefusesHeader old.codec old.channels (shown_refusal old.codec old.channels (held new)) w (held new)
-    ⊎ (Exhausts left more
-    × RefusesHeader old.codec old.channels (store_refusal old.codec old.channels (held new)) w (held new)))
+Begins left left' more old (Ok (Refused w)) new = let c = old.codec in let n = old.channels in
+    Consumes left left' more × (held old ++ more ≡ held new)
+    × (RefusesHeader c n (shown_refusal c n) w (held new)
+    ⊎ (Exhausts left more × RefusesHeader c n (store_refusal c n) w (held new)))
 Begins left left' more old (Ok OverLimit) new = (x : ℕ) × Consumes left left' (more ++ x ∷ [])
     × (held old ++ more ≡ held new) × (taken_of new ≡ limit_of new)
     × ShowsNoHeader old.codec old.channels (held new)
 Begins left left' more old (Err _) new = Consumes left left' more
     × (held old ++ more ≡ held new) × ShowsNoHeader old.codec old.channels (held new)
 
--- a block stands between what was given of the file and the octets held
+-- a block stands between these octets, which were given of the file, and the octets held
 pub record TookBlock (file more : List ℕ) (old : StoreReader) (cells : List Cell)
     (new : StoreReader) : Type 0 where
   pub block : List ℕ
@@ -132,14 +140,52 @@ GoesOn file left left' more old (Ok Ready) cells new = Consumes left left' more
     × TookBlock file more old cells new
 GoesOn file left left' more old (Ok End) cells new = Consumes left left' more
     × Exhausts left more × (held old ++ more ≡ []) × (held new ≡ [])
-GoesOn file left left' more old (Ok (Refused w)) cells new = Consumes left left' more
-    × (held old ++ more ≡ held new)
-    × (RefusesBlock old.codec old.channels file (shown_refusal old.codec old.channels (file ++ held new)) w (file ++ held new)
-    ⊎ (Exhausts left more
-    × RefusesBlock old.codec old.channels file (store_refusal old.codec old.channels (file ++ held new)) w (file ++ held new)))
+GoesOn file left left' more old (Ok (Refused w)) cells new =
+    let c = old.codec in let n = old.channels in
+    Consumes left left' more × (held old ++ more ≡ held new)
+    × (RefusesBlock c n file (shown_refusal c n) w (file ++ held new)
+    ⊎ (Exhausts left more × RefusesBlock c n file (store_refusal c n) w (file ++ held new)))
 GoesOn file left left' more old (Ok OverLimit) cells new = (x : ℕ)
     × Consumes left left' (more ++ x ∷ []) × (held old ++ more ≡ held new)
     × (taken_of new ≡ limit_of new)
     × ShowsNothing old.codec old.channels file (file ++ held new)
 GoesOn file left left' more old (Err _) cells new = Consumes left left' more
-    × (held old ++ more ≡ held new) × ShowsNothing old.codec old.channels file (file ++ held new)
+    × (held old ++ more ≡ held new)
+    × ShowsNothing old.codec old.channels file (file ++ held new)
+
+-- some octets were read, and a call for the header did so with them
+pub record Began (left left' : Option (List ℕ)) (old : StoreReader) (r : Result Step Failed)
+    (new : StoreReader) : Type 0 where
+  pub more : List ℕ
+  pub begins : Begins left left' more old r new
+  pub taken : taken_of new ≡ taken_of old + length more
+
+-- some octets were read, and a call for the block behind these octets of the file did so with them
+pub record WentOn (file : List ℕ) (left left' : Option (List ℕ)) (old : StoreReader)
+    (r : Result Step Failed) (cells : List Cell) (new : StoreReader) : Type 0 where
+  pub more : List ℕ
+  pub goes : GoesOn file left left' more old r cells new
+  pub taken : taken_of new ≡ taken_of old + length more
+
+-- the octets of the block that was given
+abbrev pub block_octets : Result Step Failed → List Cell → ℕ
+block_octets (Ok Ready) cells = length (block_text (frames_of cells))
+block_octets _ cells = 0
+
+-- cells are as before, unless a block was given
+abbrev pub KeepsCells : List Cell → Result Step Failed → List Cell → Type 0
+KeepsCells cells (Ok Ready) cells' = length cells' ≡ length cells
+KeepsCells cells _ cells' = cells' ≡ cells
+
+-- what a call leaves of a reader, by its answer: the codec, the channels and the limit that it had,
+-- and no more octets given than the limit
+pub record IsLeft (old : StoreReader) (r : Result Step Failed) (new : StoreReader) : Type 0 where
+  pub leaves : Leaves r new
+  pub same : IsSameReader old new
+  pub within : given new ≤ limit_of new
+
+-- the octets given rise by those of the block, and the cells hold it or are as before
+pub record Counts (old : StoreReader) (cells : List Cell) (r : Result Step Failed)
+    (cells' : List Cell) (new : StoreReader) : Type 0 where
+  pub rises : given new ≡ given old + block_octets r cells'
+  pub kept : KeepsCells cells r cells'

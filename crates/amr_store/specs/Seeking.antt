@@ -1,20 +1,23 @@
 -- How a reader of storage files reads until the header, or the next block, is shown. The reader is
 -- ours.
-use Rattle.std.specs.Prelude.{◌≡◌, ◌⊎◌, ◌+◌, ◌≤◌, ◌<◌, ℕ, List, [], ◌∷◌, ◌++◌, length, Option, Result, Ok, Err}
+use Rattle.std.specs.Prelude.{◌≡◌, ◌⊎◌, ◌+◌, ◌≤◌, ◌<◌, ℕ, List, [], ◌∷◌, ◌++◌, length, take, drop, Option, Result, Ok, Err}
 use Rattle.std.specs.Io.KnownBytes.{Consumes}
 use Rattle.amr_io.specs.Fault.{HasCause}
 use Rattle.amr_io.specs.declared.gate.Gate.TheVariants as gate
 use Rattle.amr_io.specs.declared.source.Source as source
 use Rattle.amr_io.specs.declared.source.Failed.{Failed}
+use Rattle.amr_frame.specs.declared.cell.Cell.{Cell}
 use Rattle.amr_frame.specs.declared.codec.Codec.{Codec}
 use Rattle.amr_store.specs.declared.reader.StoreReader.{StoreReader}
 use Rattle.amr_store.specs.declared.step.Phase.{Phase}
 use Rattle.amr_store.specs.declared.step.Phase.TheVariants as phase
+use Rattle.amr_store.specs.declared.step.Step.{Step}
+use Rattle.amr_store.specs.declared.step.Step.TheVariants as step
 use Rattle.amr_store.specs.declared.step.Sight.{Sight}
 use Rattle.amr_store.specs.declared.step.Sight.TheVariants as sight
 use Rattle.amr_store.specs.declared.step.Found.{Found}
 use Rattle.amr_store.specs.declared.step.Found.TheVariants.{Whole, Shown, Cut, End, OverLimit}
-use Rattle.amr_store.specs.Sights.{BlockEnds, BlockShows, HeaderCuts, HeaderShows}
+use Rattle.amr_store.specs.Sights.{BlockEnds, BlockShows, HeaderCuts, HeaderShows, HoldsFrames, ReadsBlock}
 use Rattle.amr_store.specs.Reading.{Exhausts, IsSameReader, given, held, limit_of, taken_of}
 
 -- what octets show of the header where it isn't read yet, and else of the next block
@@ -78,3 +81,43 @@ pub record Sought {S : Type 0} (s : source.Ghosts S) (before after : S) (old : S
   pub phase_is : new.phase ≡ old.phase
   pub same : IsSameReader old new
   pub cause : HasCause (s.faults before) (s.faults after) r
+
+-- the answer that what was found gives, and how many octets it takes
+abbrev pub step_of : Result Found Failed → Result Step Failed
+step_of (Ok (Whole len)) = Ok step.Ready
+step_of (Ok (Shown w)) = Ok (step.Refused w)
+step_of (Ok (Cut w)) = Ok (step.Refused w)
+step_of (Ok End) = Ok step.End
+step_of (Ok OverLimit) = Ok step.OverLimit
+step_of (Err e) = Err e
+
+abbrev pub len_of : Result Found Failed → ℕ
+len_of (Ok (Whole len)) = len
+len_of _ = 0
+
+-- how far a reader is behind an answer
+abbrev pub phase_after : Result Step Failed → Phase
+phase_after (Ok step.Ready) = phase.Open
+phase_after (Ok step.End) = phase.Ended
+phase_after _ = phase.Spent
+
+-- what was found was taken, and the answer given
+pub record Settles (old : StoreReader) (found : Result Found Failed) (r : Result Step Failed)
+    (new : StoreReader) : Type 0 where
+  pub answer : r ≡ step_of found
+  pub left : held new ≡ drop (len_of found) (held old)
+  pub phase_is : new.phase ≡ phase_after r
+  pub taken : taken_of new ≡ taken_of old
+  pub gate : new.inlet.gate ≡ old.inlet.gate
+  pub same : IsSameReader old new
+
+-- the block that was found stands first in the octets held
+abbrev pub HasBlock : StoreReader → Result Found Failed → Type 0
+HasBlock r (Ok (Whole len)) = HoldsFrames r.codec r.channels (held r) len
+HasBlock r _ = Unit {0}
+
+-- the block that was found stands in the cells, and they are as before where none was
+abbrev pub FillsCells : StoreReader → Result Found Failed → List Cell → List Cell → Type 0
+FillsCells r (Ok (Whole len)) cells cells' = ReadsBlock r.codec (take len (held r)) cells'
+    × (length cells' ≡ length cells)
+FillsCells r _ cells cells' = cells' ≡ cells

@@ -1,6 +1,7 @@
 // Storage files read block by block.
 
-ghost use Rattle.std.specs.Prelude.{◌≡◌, ◌+◌, ◌≤◌, ◌<◌, ◌^◌, length, IfOk};
+ghost use Rattle.std.specs.Prelude.{◌≡◌, ◌⊎◌, ◌+◌, ◌≤◌, ◌<◌, ◌^◌, ◌++◌, List, Ok, length, ℕ, IfOk};
+ghost use Rattle.amr_io.specs.Fault.{HasCause};
 ghost use Rattle.amr_io.specs.declared.gate.Gate.TheVariants as gate;
 
 use crate::block::{block_end, block_sight, read_block};
@@ -29,8 +30,8 @@ pub struct StoreReader {
 }
 
 impl StoreReader {
-    ghost use Rattle.amr_store.specs.Reading.{IsFresh, given, held, limit_of, taken_of};
-    ghost use Rattle.amr_store.specs.Seeking.{Ends, Looks, Sought};
+    ghost use Rattle.amr_store.specs.Reading.{Began, Counts, HasEnded, HasGiven, IsFresh, IsLeft, IsUsable, ShowsNothing, WentOn, channels_of, codec_of, given, held, limit_of};
+    ghost use Rattle.amr_store.specs.Seeking.{Ends, FillsCells, HasBlock, Looks, Settles, Sought, len_of};
     ghost use Rattle.amr_store.specs.declared.step.Sight.TheVariants as sight;
 
     /// A reader of which at most `limit` octets are taken.
@@ -113,5 +114,88 @@ impl StoreReader {
                 Filled::OverLimit => return Ok(Found::OverLimit),
             }
         }
+    }
+
+    /// Takes what was found, and gives the answer.
+    fn settle(&mut self, found: Result<Found, Failed>) -> Result<Step, Failed>
+        requires within { len_of found ≤ length (held self.old) }
+        ensures settles { Settles self.old found result self.new }
+    {
+        self.phase = Phase::Spent;
+        match found {
+            Ok(Found::Whole { len }) => {
+                self.inlet.take(len);
+                self.phase = Phase::Open;
+                Ok(Step::Ready)
+            }
+            Ok(Found::Shown(why)) => Ok(Step::Refused(why)),
+            Ok(Found::Cut(why)) => Ok(Step::Refused(why)),
+            Ok(Found::End) => {
+                self.phase = Phase::Ended;
+                Ok(Step::End)
+            }
+            Ok(Found::OverLimit) => Ok(Step::OverLimit),
+            Err(failed) => Err(failed),
+        }
+    }
+
+    /// Reads the block that was found into the cells.
+    fn fill_cells(&self, found: Result<Found, Failed>, cells: &mut [Cell])
+        requires whole { HasBlock self.now found }
+        requires cells { length cells.old ≡ self.now.channels }
+        ensures fills { FillsCells self.now found cells.old cells.new }
+    {
+        if let Ok(Found::Whole { len }) = found {
+            read_block(self.codec, &self.inlet.held()[..len], cells);
+        }
+    }
+
+    /// Reads the header. It is the first call, and answers `Ready` where the header is whole and that of
+    /// the codec and the channels.
+    ///
+    /// It reads only while the octets taken don't show the answer. `Refused`, `OverLimit` and `Failed`
+    /// spend the reader. `Failed` comes only where the source's faults rose.
+    pub fn begin<S: Source>(&mut self, source: &mut S) -> Result<Step, Failed>
+        requires fresh { IsFresh self.old }
+
+        ensures began { Began (S.left source.old) (S.left source.new) self.old result self.new }
+        ensures left { IsLeft self.old result self.new }
+        ensures cause { HasCause (S.faults source.old) (S.faults source.new) result }
+    {
+        let found = self.seek(source);
+        self.settle(found)
+    }
+
+    /// Gives the next block in `cells`, one frame for each channel, or says why there is none.
+    ///
+    /// It reads only while the octets taken don't show the answer. `cells` is as it was after every
+    /// answer but `Ready`. `End` is given again by later calls, without a read. `Refused`, `OverLimit`
+    /// and `Failed` spend the reader. `Failed` comes only where the source's faults rose.
+    pub fn next_block<S: Source>(
+        &mut self,
+        source: &mut S,
+        cells: &mut [Cell],
+    ) -> Result<Step, Failed>
+        requires usable { IsUsable self.old }
+        requires cells { length cells.old ≡ channels_of self.old }
+
+        ensures went_on { (file : List ℕ) → HasGiven file self.old
+            → WentOn file (S.left source.old) (S.left source.new) self.old result cells.new
+            self.new }
+        ensures left { IsLeft self.old result self.new }
+        ensures counts { Counts self.old cells.old result cells.new self.new }
+        ensures no_read { (file : List ℕ) → HasGiven file self.old → (source.new ≡ source.old)
+            ⊎ ShowsNothing (codec_of self.old) (channels_of self.old) file
+            (file ++ held self.old) }
+        ensures ended_again { HasEnded self.old → (result ≡ Ok Step.End)
+            × (source.new ≡ source.old) }
+        ensures cause { HasCause (S.faults source.old) (S.faults source.new) result }
+    {
+        if self.phase == Phase::Ended {
+            return Ok(Step::End);
+        }
+        let found = self.seek(source);
+        self.fill_cells(found, cells);
+        self.settle(found)
     }
 }
