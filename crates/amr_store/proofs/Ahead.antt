@@ -1,34 +1,26 @@
 -- What octets behind a file that isn't refused come to, by its definition.
-use Rattle.std.proofs.Common.{◌≡◌, ℕ, zero, suc, ◌+◌, ◌*◌, ◌%◌, ◌<◌, ◌≤◌, Bool, true, false, not, cond, ltb, List, [], ◌∷◌, ◌++◌, length, map, take, drop, sym, refl, subst, ap, ◌∙◌, append_assoc, arith, inl, inr, Some, None}
-use Rattle.std.specs.Prelude.{◌&&◌, nat_eq, position, slice_index_or}
-use Rattle.std.specs.List.{flat_map, fold, position_or_len, AllByRecursion}
-use Rattle.std.specs.Option.{unwrap_or}
-use Rattle.std.proofs.lemmas.Bool.{eq-eqb, lt-ltb, ltb-false}
-use Rattle.std.proofs.lemmas.List.{append-nil, length-append, length-drop, length-take, length-take-le, nil_from_length, take-append-drop}
-use Rattle.std.proofs.lemmas.List.Sums.{fold-append}
+use Rattle.std.proofs.Common.{◌≡◌, ℕ, suc, ◌+◌, ◌*◌, ◌%◌, ◌<◌, ◌≤◌, true, ltb, List, [], ◌∷◌, ◌++◌, length, map, take, drop, sym, refl, subst, ap, ◌∙◌, arith, inl, inr, Some, None}
+use Rattle.std.specs.Prelude.{◌&&◌, nat_eq}
+use Rattle.std.proofs.lemmas.Bool.{lt-ltb}
+use Rattle.std.proofs.lemmas.List.{append-nil, length-drop, length-take-le, nil_from_length, take-append-drop}
 use Rattle.std.proofs.lemmas.Nat.{mod-mul-add}
 use Rattle.std.proofs.Math.Seq.{take-append_seam}
-use Rattle.amr_bits.proofs.Lists.{all_append}
 use Rattle.amr_frame.specs.declared.codec.Codec.{Codec}
 use Rattle.amr_frame.specs.declared.codec.Codec.TheVariants.{Amr, AmrWb}
-use Rattle.amr_frame.specs.declared.codec.Kind.{Kind}
-use Rattle.amr_frame.specs.declared.codec.Kind.TheVariants.{Speech, Sid, Lost, Empty, Reserved}
 use Rattle.amr_frame.specs.First.{when, first}
-use Rattle.amr_frame.specs.Tables.{Row, rows, bits_in, is_reserved, octets_in}
 use Rattle.refusals.specs.declared.store.StoreRefusal.{StoreRefusal}
 use Rattle.refusals.specs.declared.store.StoreRefusal.TheVariants as why
 use Rattle.spec_store.specs.StorageFile.{single, multi}
-use Rattle.spec_store.specs.StorageReading.{Units, blocks_in, blocks_of, channels_told, cut_refusal, first_reserved, frame_in, frames_in, has_header, has_header_of, header_len, is_reserved_unit, is_unit, shown_refusal, store_refusal, unit_type, units_in, with_octet}
-use Rattle.store_laws.specs.Units.{AreUnits, IsPart}
-use Rattle.store_laws.proofs.Behind.{block_read, none_reserved, units_go_on, whole_of}
+use Rattle.spec_store.specs.StorageReading.{blocks_in, channels_told, cut_refusal, frame_in, header_len, store_refusal}
+use Rattle.store_laws.specs.Units.{AreUnits}
+use Rattle.store_laws.proofs.Behind.{block_read}
 use Rattle.store_laws.proofs.Blocked.{blocks_again}
-use Rattle.store_laws.proofs.Cutting.{all, state}
-use Rattle.store_laws.proofs.Ended.{end_cuts, nothing_shown, same_blocks, units_of}
+use Rattle.store_laws.proofs.Ended.{end_cuts, nothing_shown, same_blocks}
 use Rattle.store_laws.proofs.Headers.{Headed, OfMany, OfOne, Spelled, one_channel, several, spelled}
-use Rattle.store_laws.proofs.Reading.{IsRead, all_known, blocks_read, frames_from, none_passes, not_refused, unrefused, units_behind}
+use Rattle.store_laws.proofs.Reading.{IsRead, blocks_read, not_refused, units_behind}
 use Rattle.amr_store.specs.declared.step.Found.TheVariants as found
 use Rattle.amr_store.specs.Reading.{RefusesBlock, RefusesHeader, ShowsNoHeader, ShowsNothing}
-use Rattle.amr_store.specs.Sights.{BlockEnds, BlockPart, BlockWrong, HeaderCuts, HeaderPart, HeaderWhole, HoldsFrames, HoldsReserved}
+use Rattle.amr_store.specs.Sights.{BlockEnds, BlockPart, HeaderCuts, HeaderPart, HeaderWhole}
 
 -- a header with nothing behind it is a file with no block
 pub record IsBare (codec : Codec) (channels : ℕ) (file : List ℕ) : Type 0 where

@@ -17,8 +17,7 @@ use Rattle.amr_frame.specs.declared.codec.Kind.{Kind}
 use Rattle.amr_frame.specs.declared.codec.Kind.TheVariants.{Speech, Sid, Lost, Empty, Reserved}
 use Rattle.amr_frame.specs.Tables.{Row, rows, bits_in, is_reserved, octets_in}
 use Rattle.spec_store.specs.StorageReading.{is_reserved_unit, is_unit, unit_type}
-use Rattle.store_laws.specs.Units.{IsPart}
-use Rattle.amr_store.specs.Sights.{HoldsFrame, HoldsFrames, HoldsPart, HoldsReserved, IsFirst}
+use Rattle.amr_store.specs.Sights.{HoldsFrame, HoldsFrames, HoldsPart, HoldsReserved}
 
 -- whether no row has more than 477 bits
 abbrev few_bits : List Row → Bool
@@ -51,7 +50,7 @@ type_in o rest small =
 
 -- a kind is that of reserved types, or not
 pub same_kind : (kind : Kind) (b : Bool) → b ≡ sameb the_type kind Reserved
-    → elim kind [ | Speech ↦ false | Sid ↦ false | Lost ↦ false | Empty ↦ false | Reserved ↦ true ] ≡ b
+    → elim kind [ Speech ↦ false | Sid ↦ false | Lost ↦ false | Empty ↦ false | Reserved ↦ true ] ≡ b
 same_kind Speech b e = sym e
 same_kind Sid b e = sym e
 same_kind Lost b e = sym e

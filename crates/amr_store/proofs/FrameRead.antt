@@ -1,16 +1,16 @@
 -- The frame that stands first in octets, and a block of frames, read into cells.
-use Rattle.std.proofs.Common.{◌≡◌, ℕ, zero, suc, ◌+◌, ◌*◌, ◌/◌, ◌%◌, ◌<◌, ◌≤◌, Bool, true, false, List, [], ◌∷◌, ◌++◌, length, map, take, drop, get_or, sym, subst, refl, ap, ◌∙◌, arith}
+use Rattle.std.proofs.Common.{◌≡◌, ℕ, suc, ◌+◌, ◌*◌, ◌/◌, ◌%◌, ◌<◌, ◌≤◌, Bool, true, false, List, [], ◌∷◌, ◌++◌, length, map, take, drop, get_or, sym, subst, refl, ap, ◌∙◌, arith}
 use Rattle.std.specs.Prelude.{nat_eq, set, IsTrue}
 use Rattle.std.specs.List.{flat_map, AllByRecursion}
 use Rattle.std.proofs.lemmas.Bool.{eqb-true}
 use Rattle.std.proofs.lemmas.List.{append-nil, append_assoc, drop-drop, length-append, length-drop, length-map, length-set, map-append, nil_from_length, take_all, take_more_set}
 use Rattle.std.proofs.Math.Seq.{drop-append_seam}
-use Rattle.amr_bits.specs.Bits.{bit_at, bits_at}
+use Rattle.amr_bits.specs.Bits.{bits_at}
 use Rattle.amr_bits.proofs.Lists.{all_append, split_all}
 use Rattle.amr_bits.proofs.Runs.{run-append, run-rest}
 use Rattle.amr_frame.specs.declared.cell.Cell.{Cell}
 use Rattle.amr_frame.specs.declared.codec.Codec.{Codec}
-use Rattle.amr_frame.specs.Blocks.{IsPresentBlock, frames_of}
+use Rattle.amr_frame.specs.Blocks.{frames_of}
 use Rattle.amr_frame.specs.Cells.{frame_of}
 use Rattle.amr_frame.specs.Frames.{Frame, IsFrame}
 use Rattle.amr_frame.specs.Tables.{bits_in, is_reserved, octets_in}

@@ -1,5 +1,5 @@
 -- What the octets at the front of a file show of its header.
-use Rattle.std.proofs.Common.{◌≡◌, ℕ, ◌+◌, ◌%◌, ◌<◌, ◌≤◌, Bool, true, false, not, ◌||◌, cond, ltb, List, [], ◌∷◌, length, sym, refl, ap, ◌∙◌, map, Option}
+use Rattle.std.proofs.Common.{◌≡◌, ℕ, ◌+◌, ◌%◌, ◌≤◌, Bool, true, false, not, ◌||◌, cond, ltb, List, [], ◌∷◌, length, sym, refl, ap, ◌∙◌, map, Option}
 use Rattle.std.specs.Prelude.{◌&&◌, nat_eq, slice_index}
 use Rattle.std.proofs.lemmas.Bool.{eqb-true, le-ltb}
 use Rattle.std.specs.Option.{option_map}
@@ -10,7 +10,7 @@ use Rattle.spec_store.specs.StorageReading.{begins_with, channels_told, first_re
 use Rattle.refusals.specs.declared.store.StoreRefusal.{StoreRefusal}
 use Rattle.refusals.specs.declared.store.StoreRefusal.TheVariants as why
 use Rattle.amr_store.specs.declared.step.Sight.TheVariants as sight
-use Rattle.amr_store.specs.Sights.{HeaderShows, HeaderWhole, HeaderWrong, told_sight}
+use Rattle.amr_store.specs.Sights.{HeaderShows, told_sight}
 
 -- a whole header of n octets that tells so many channels
 pub record IsHeader (codec : Codec) (file : List ℕ) (chan n : ℕ) : Type 0 where
@@ -72,7 +72,7 @@ header_told codec channels file chan n h =
           let other : nat_eq (channels_told codec file) channels ≡ false = ap (λ n. nat_eq n channels) told ∙ e in
           record {
             shown = (λ i. first (when (not (magic i) && not (may_have_magic codec file)) why.Magic
-            ∷ when (has i && not (other i)) (why.Channels (told i)) ∷ rest_rule codec file ∷ []));
+                ∷ when (has i && not (other i)) (why.Channels (told i)) ∷ rest_rule codec file ∷ []));
             wrong = (λ i. has i && other i);
           }
     ] refl

@@ -8,3 +8,4 @@ pub mod Looked
 pub mod Ahead
 pub mod Wrong
 pub mod Settled
+pub mod Told

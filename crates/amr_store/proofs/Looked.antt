@@ -1,5 +1,5 @@
 -- What a reader sees of the octets held, while it reads on.
-use Rattle.std.proofs.Common.{◌≡◌, ℕ, ◌+◌, ◌-◌, ◌*◌, ◌^◌, ◌<◌, ◌≤◌, List, ◌++◌, ◌⊎◌, inl, inr, [], length, refl, sym, subst, ap, ◌∙◌, arith, length-append, append-nil}
+use Rattle.std.proofs.Common.{◌≡◌, ℕ, ◌+◌, ◌^◌, ◌<◌, ◌≤◌, List, ◌++◌, ◌⊎◌, inl, inr, length, refl, sym, subst, ap, ◌∙◌, arith, length-append, append-nil}
 use Rattle.std.specs.Prelude.{Option, Some, None, Result, Ok, Err}
 use Rattle.std.specs.Io.KnownBytes.{Consumes, IsAtEnd, Keeps}
 use Rattle.std.proofs.KnownBytes.{Consumes-kept}
@@ -112,7 +112,7 @@ end_sought s before mid after old now new more at f p same h read ended keeps jo
       seeks = (
         more,
         ended_seeks left (s.left after) more old new at f (Consumes-kept left (s.left mid) (s.left after) more read keeps) (exhausts left (s.left mid) more read ended)
-        (subst (λ l. Looks old l (sight.Part at)) (sym h) part) mine,
+            (subst (λ l. Looks old l (sight.Part at)) (sym h) part) mine,
         all,
         taken,
       );

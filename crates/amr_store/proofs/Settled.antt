@@ -1,10 +1,9 @@
 -- What a call of a reader did, from what was found and taken.
-use Rattle.std.proofs.Common.{◌≡◌, ◌⊎◌, inl, inr, ℕ, ◌+◌, ◌-◌, ◌≤◌, true, false, List, [], ◌∷◌, ◌++◌, length, map, take, drop, sym, refl, subst, ap, ◌∙◌, append_assoc, arith}
-use Rattle.std.specs.Prelude.{Option, Some, None, Result, Ok, Err}
+use Rattle.std.proofs.Common.{◌≡◌, ◌⊎◌, inl, inr, ℕ, ◌+◌, ◌≤◌, true, false, List, [], ◌∷◌, ◌++◌, length, map, take, drop, sym, refl, subst, ap, ◌∙◌, append_assoc, arith}
+use Rattle.std.specs.Prelude.{Option, None, Result, Ok, Err}
 use Rattle.std.proofs.lemmas.List.{length-append, length-drop, length-take-le, take-append-drop}
 use Rattle.amr_io.specs.declared.source.Source as source
 use Rattle.amr_io.specs.declared.source.Failed.{Failed}
-use Rattle.amr_io.specs.declared.gate.Gate.TheVariants as gate
 use Rattle.amr_frame.specs.declared.cell.Cell.{Cell}
 use Rattle.amr_frame.specs.Blocks.{IsPresentBlock, frames_of}
 use Rattle.amr_frame.specs.declared.codec.Codec.{Codec}
@@ -19,17 +18,15 @@ use Rattle.spec_store.specs.StorageReading.{blocks_in, frame_in, is_unit, shown_
 use Rattle.amr_store.specs.declared.reader.StoreReader.{StoreReader}
 use Rattle.amr_store.specs.declared.step.Phase.TheVariants as phase
 use Rattle.amr_store.specs.declared.step.Step.{Step}
-use Rattle.amr_store.specs.declared.step.Step.TheVariants as step
 use Rattle.amr_store.specs.declared.step.Sight.{Sight}
 use Rattle.amr_store.specs.declared.step.Sight.TheVariants as sight
 use Rattle.amr_store.specs.declared.step.Found.{Found}
 use Rattle.amr_store.specs.declared.step.Found.TheVariants as found
 use Rattle.amr_store.specs.Sights.{BlockEnds, BlockShows, HeaderShows, ReadsBlock}
-use Rattle.amr_store.specs.Reading.{Began, Begins, Counts, GoesOn, HasGiven, IsFresh, IsLeft, IsOpen, IsSameReader, KeepsCells, Leaves, RefusesBlock, RefusesHeader, ShowsNoHeader, ShowsNothing, TookBlock, TookHeader, WentOn, block_octets, channels_of, given, held, limit_of, taken_of}
+use Rattle.amr_store.specs.Reading.{Began, Begins, Counts, GoesOn, HasGiven, IsFresh, IsSameReader, RefusesBlock, RefusesHeader, ShowsNoHeader, ShowsNothing, WentOn, channels_of, given, held, limit_of, taken_of}
 use Rattle.amr_store.specs.Seeking.{EndsBy, FillsCells, Looks, LooksBy, SeeksBy, Settles, Sought, len_of, phase_after, step_of}
 use Rattle.amr_store.proofs.Ahead.{block_ahead, cut_ahead, cut_no_header, header_bare, part_ahead, part_no_header}
-use Rattle.amr_store.proofs.Wrong.{wrong_ahead}
-use Rattle.amr_store.proofs.Looked.{given_stays}
+use Rattle.amr_store.proofs.Wrong.{wrong_ahead, wrong_header_more, wrong_more}
 
 -- what is known of a reader behind a search: its octets, and what is the same
 record Behind (more : List ℕ) (old new : StoreReader) (len : ℕ) (mid : StoreReader) : Type 0 where
@@ -41,6 +38,10 @@ record Behind (more : List ℕ) (old new : StoreReader) (len : ℕ) (mid : Store
   mid_limit : limit_of new ≡ limit_of mid
   same : IsSameReader old new
 
+-- a reader is the same through two steps
+pub same_through : (old mid new : StoreReader) → IsSameReader old mid → IsSameReader mid new → IsSameReader old new
+same_through old mid new p q = record { codec = q.codec ∙ p.codec; channels = q.channels ∙ p.channels; limit = q.limit ∙ p.limit }
+
 behind : {S : Type 0} (s : source.Ghosts S) (before after : S) (old mid new : StoreReader) (f : Result Found Failed) (r : Result Step Failed)
     → (k : Sought s before after old f mid) → Settles mid f r new → Behind k.seeks.0 old new (len_of f) mid
 behind s before after old mid new f r k t = record {
@@ -50,7 +51,7 @@ behind s before after old mid new f r k t = record {
   gate = t.gate;
   mid_taken = t.taken;
   mid_limit = t.same.limit;
-  same = record { codec = t.same.codec ∙ k.same.codec; channels = t.same.channels ∙ k.same.channels; limit = t.same.limit ∙ k.same.limit };
+  same = same_through old mid new k.same t.same;
 }
 
 -- the octets in front of those held were taken
@@ -86,20 +87,26 @@ module _ (left left' : Option (List ℕ)) (more : List ℕ) (old mid new : Store
       let codec = b.same.codec in let channels = b.same.channels in
       let size : length front ≡ len = length-take-le len (held mid) under in
       let more_given = given_more more old new mid len b under in
-      let none = fresh.2 in
-      (k.0, record {
-        header = front;
-        join = taken_front more old new mid len b;
-        given_is = record {
-          is_open = (p, b.gate ∙ k.2);
-          is_file = (λ i. store_refusal (codec i) (channels i) front) ∙ is.is_file;
-          given_are = omega (arith, size, more_given, none);
-        };
-        no_blocks = is.no_blocks;
-      })
+      let none = fresh.2 in (
+        k.0,
+        record {
+          header = front;
+          join = taken_front more old new mid len b;
+          given_is = record {
+            is_open = (p, b.gate ∙ k.2);
+            is_file = (λ i. store_refusal (codec i) (channels i) front) ∙ is.is_file;
+            given_are = omega (arith, size, more_given, none);
+          };
+          no_blocks = is.no_blocks;
+        },
+      )
   begins_by (Ok (found.Shown w)) fresh k b p =
-      let h = header (sight.Refused w) (held mid) fresh.0 k.1 in
-      (k.0, all_held more old new mid b, inl (subst (RefusesHeader old.codec old.channels (shown_refusal old.codec old.channels) w) (sym b.left) (record { refused = h.shown; header = h.wrong })))
+      let h = header (sight.Refused w) (held mid) fresh.0 k.1 in (
+        k.0,
+        all_held more old new mid b,
+        inl (λ behind.
+            subst (λ l. RefusesHeader old.codec old.channels (shown_refusal old.codec old.channels) w (l ++ behind)) (sym b.left) (wrong_header_more old.codec old.channels (held mid) behind w h)),
+      )
   begins_by (Ok (found.Cut w)) fresh k b p =
       let at = k.2.0 in
       let h = header (sight.Part at) (held mid) fresh.0 k.2.1 in
@@ -122,7 +129,7 @@ began s before after old mid new f r k t fresh =
     record {
       more = more;
       begins = subst (λ a. Begins (s.left before) (s.left after) more old a new) (sym t.answer)
-      (begins_by (s.left before) (s.left after) more old mid new f fresh k.seeks.1 b (t.phase_is ∙ ap phase_after t.answer));
+          (begins_by (s.left before) (s.left after) more old mid new f fresh k.seeks.1 b (t.phase_is ∙ ap phase_after t.answer));
       taken = b.taken;
     }
 
@@ -174,39 +181,58 @@ module _ (left left' : Option (List ℕ)) (more : List ℕ) (old mid new : Store
         let both = length-append file block in
         let more_given = given_more more old new mid len b under in
         let before = g.given_are in
-        let frames = sym read.frames in
-        (k.0, record {
-          block = block;
-          join = taken_front more old new mid len b;
-          given_is = record {
-            is_open = (p, b.gate ∙ k.2);
-            is_file = (λ i. store_refusal (codec i) (channels i) (file ++ block)) ∙ ahead.0;
-            given_are = omega (arith, long, both, more_given, before);
-          };
-          blocks = ahead.1 ∙ (λ i. blocks_in old.codec old.channels file ++ frames i ∷ []);
-          present = subst (λ n. IsPresentBlock old.codec n cells') count read.block;
-        })
+        let frames = sym read.frames in (
+          k.0,
+          record {
+            block = block;
+            join = taken_front more old new mid len b;
+            given_is = record {
+              is_open = (p, b.gate ∙ k.2);
+              is_file = (λ i. store_refusal (codec i) (channels i) (file ++ block)) ∙ ahead.0;
+              given_are = omega (arith, long, both, more_given, before);
+            };
+            blocks = ahead.1 ∙ (λ i. blocks_in old.codec old.channels file ++ frames i ∷ []);
+            present = subst (λ n. IsPresentBlock old.codec n cells') count read.block;
+          },
+        )
     goes_by (Ok (found.Shown w)) k b same fills p =
-        let h = blocks (sight.Refused w) (length file) (held mid) g.is_open.0 g.given_are k.1 in
-        (k.0, all_held more old new mid b, inl (subst (λ l. RefusesBlock old.codec old.channels file (shown_refusal old.codec old.channels) w (file ++ l)) (sym b.left)
-        (wrong_ahead old.codec old.channels file old.some g.is_file (held mid) w h)))
+        let h = blocks (sight.Refused w) (length file) (held mid) g.is_open.0 g.given_are k.1 in (
+          k.0,
+          all_held more old new mid b,
+          inl (λ behind.
+              subst (λ l. RefusesBlock old.codec old.channels file (shown_refusal old.codec old.channels) w ((file ++ l) ++ behind)) (sym b.left)
+              (subst (RefusesBlock old.codec old.channels file (shown_refusal old.codec old.channels) w) (sym (append_assoc file (held mid) behind))
+              (wrong_ahead old.codec old.channels file old.some g.is_file (held mid ++ behind) w (wrong_more old.codec old.channels (length file) (held mid) behind w h)))),
+        )
     goes_by (Ok (found.Cut w)) k b same fills p =
         let at = k.2.0 in
         let h = blocks (sight.Part at) (length file) (held mid) g.is_open.0 g.given_are k.2.1 in
-        let e = block_ends (found.Cut w) (length file) at (held mid) g.is_open.0 g.given_are k.2.2 in
-        (k.0, all_held more old new mid b, inr (k.1, subst (λ l. RefusesBlock old.codec old.channels file (store_refusal old.codec old.channels) w (file ++ l)) (sym b.left)
-        (cut_ahead old.codec old.channels file old.some g.is_file (held mid) at w h e)))
+        let e = block_ends (found.Cut w) (length file) at (held mid) g.is_open.0 g.given_are k.2.2 in (
+          k.0,
+          all_held more old new mid b,
+          inr (
+            k.1,
+            subst (λ l. RefusesBlock old.codec old.channels file (store_refusal old.codec old.channels) w (file ++ l)) (sym b.left)
+                (cut_ahead old.codec old.channels file old.some g.is_file (held mid) at w h e),
+          ),
+        )
     goes_by (Ok found.End) k b same fills p =
         let e = block_ends found.End (length file) k.2.0 (held mid) g.is_open.0 g.given_are k.2.2 in
         (k.0, k.1, b.join ∙ e, b.left ∙ e)
     goes_by (Ok found.OverLimit) k b same fills p =
-        let h = blocks (sight.Part k.2.0) (length file) (held mid) g.is_open.0 g.given_are k.2.1 in
-        (k.0, k.1, all_held more old new mid b, b.mid_taken ∙ k.3 ∙ sym b.mid_limit,
-        subst (λ l. ShowsNothing old.codec old.channels file (file ++ l)) (sym b.left) (part_ahead old.codec old.channels file old.some g.is_file (held mid) k.2.0 h))
+        let h = blocks (sight.Part k.2.0) (length file) (held mid) g.is_open.0 g.given_are k.2.1 in (
+          k.0,
+          k.1,
+          all_held more old new mid b,
+          b.mid_taken ∙ k.3 ∙ sym b.mid_limit,
+          subst (λ l. ShowsNothing old.codec old.channels file (file ++ l)) (sym b.left) (part_ahead old.codec old.channels file old.some g.is_file (held mid) k.2.0 h),
+        )
     goes_by (Err e) k b same fills p =
-        let h = blocks (sight.Part k.1.0) (length file) (held mid) g.is_open.0 g.given_are k.1.1 in
-        (k.0, all_held more old new mid b,
-        subst (λ l. ShowsNothing old.codec old.channels file (file ++ l)) (sym b.left) (part_ahead old.codec old.channels file old.some g.is_file (held mid) k.1.0 h))
+        let h = blocks (sight.Part k.1.0) (length file) (held mid) g.is_open.0 g.given_are k.1.1 in (
+          k.0,
+          all_held more old new mid b,
+          subst (λ l. ShowsNothing old.codec old.channels file (file ++ l)) (sym b.left) (part_ahead old.codec old.channels file old.some g.is_file (held mid) k.1.0 h),
+        )
 
 -- what a call for the next block did
 pub went_on : {S : Type 0} (s : source.Ghosts S) (before after : S) (old mid new : StoreReader) (f : Result Found Failed) (r : Result Step Failed) (cells cells' : List Cell)
@@ -218,7 +244,7 @@ went_on s before after old mid new f r cells cells' k fills t size file g =
     record {
       more = more;
       goes = subst (λ a. GoesOn file (s.left before) (s.left after) more old a cells' new) (sym t.answer)
-      (goes_by (s.left before) (s.left after) more old mid new cells cells' file g size f k.seeks.1 b k.same fills (t.phase_is ∙ ap phase_after t.answer));
+          (goes_by (s.left before) (s.left after) more old mid new cells cells' file g size f k.seeks.1 b k.same fills (t.phase_is ∙ ap phase_after t.answer));
       taken = b.taken;
     }
 

@@ -1,10 +1,10 @@
 -- A frame of a reserved type in the next block: it is named, and there is no block more.
 use Rattle.std.proofs.Common.{◌≡◌, ℕ, zero, suc, ◌+◌, ◌<◌, ◌≤◌, Bool, true, false, not, cond, ltb, List, [], ◌∷◌, ◌++◌, length, map, take, drop, sym, refl, subst, ap, ◌∙◌, append_assoc, arith, Some, None}
-use Rattle.std.specs.Prelude.{◌&&◌, nat_eq, position, slice_index_or}
+use Rattle.std.specs.Prelude.{◌&&◌, nat_eq, position, slice_index, slice_index_or, Option}
 use Rattle.std.specs.List.{fold, position_or_len, AllByRecursion}
-use Rattle.std.specs.Option.{unwrap_or}
-use Rattle.std.proofs.lemmas.Bool.{eq-eqb, lt-ltb}
-use Rattle.std.proofs.lemmas.List.{append-nil, drop-append-le, length-append, length-take-le, take-append-drop, take-append-le}
+use Rattle.std.specs.Option.{option_map, unwrap_or}
+use Rattle.std.proofs.lemmas.Bool.{eq-eqb, eqb-true, lt-ltb}
+use Rattle.std.proofs.lemmas.List.{drop-append-le, length-append, length-take-le, take-append-drop, take-append-le}
 use Rattle.std.proofs.lemmas.List.Sums.{fold-append}
 use Rattle.std.proofs.Math.Seq.{take-append_seam}
 use Rattle.amr_bits.specs.Bits.{octets_for}
@@ -13,19 +13,22 @@ use Rattle.amr_frame.specs.declared.codec.Codec.{Codec}
 use Rattle.amr_frame.specs.declared.codec.Codec.TheVariants.{Amr, AmrWb}
 use Rattle.amr_frame.specs.declared.codec.Kind.{Kind}
 use Rattle.amr_frame.specs.declared.codec.Kind.TheVariants.{Speech, Sid, Lost, Empty, Reserved}
+use Rattle.amr_frame.specs.First.{when, first}
 use Rattle.amr_frame.specs.Tables.{Row, rows, bits_in, is_reserved, octets_in}
 use Rattle.refusals.specs.declared.store.StoreRefusal.{StoreRefusal}
 use Rattle.refusals.specs.declared.store.StoreRefusal.TheVariants as why
-use Rattle.spec_store.specs.StorageReading.{Units, blocks_in, blocks_of, channels_told, first_reserved, frame_in, frames_in, has_header, has_header_of, is_reserved_unit, is_unit, shown_refusal, store_refusal, unit_type, units_in, with_octet}
+use Rattle.spec_store.specs.StorageReading.{Units, blocks_in, blocks_of, channels_told, first_reserved, frame_in, frames_in, has_header, has_header_of, has_magic, header_len, is_reserved_unit, is_unit, may_have_magic, shown_refusal, store_refusal, unit_place, unit_type, units, units_in, with_octet}
 use Rattle.store_laws.specs.Units.{AreUnits, IsPart}
 use Rattle.store_laws.proofs.Behind.{none_reserved, units_go_on, whole_of}
 use Rattle.store_laws.proofs.Cutting.{all, state}
 use Rattle.store_laws.proofs.Ended.{same_blocks, units_of}
 use Rattle.store_laws.proofs.Longer.{longer, reserved_stays, units_longer}
+use Rattle.store_laws.proofs.Headers.{and_true}
 use Rattle.store_laws.proofs.Named.{named}
+use Rattle.store_laws.proofs.Showing.{shown_more}
 use Rattle.store_laws.proofs.Reading.{all_known, frames_from, none_passes, unrefused}
-use Rattle.amr_store.specs.Reading.{RefusesBlock}
-use Rattle.amr_store.specs.Sights.{BlockWrong, HoldsFrames, HoldsReserved}
+use Rattle.amr_store.specs.Reading.{RefusesBlock, RefusesHeader}
+use Rattle.amr_store.specs.Sights.{BlockWrong, HeaderWrong}
 
 -- a row of the table has no bits where its type is reserved
 abbrev is_free : Kind → Bool
@@ -175,4 +178,65 @@ wrong_more codec channels place octets more w h =
         reserved = r.reserved;
       };
       named = h.named;
+    }
+
+-- octets with a header of the channels don't lack a magic number
+not_by : (o : Option ℕ) (place type : ℕ → ℕ) → first (None ∷ None ∷ option_map (λ k. why.Reserved (place k) (type k)) o ∷ []) ≡ Some why.Magic → ⊥
+not_by None place type e = cc
+not_by (Some k) place type e = cc
+
+not_magic : (codec : Codec) (channels : ℕ) (file : List ℕ) → has_header codec file ≡ true → channels_told codec file ≡ channels → shown_refusal codec channels file ≡ Some why.Magic → ⊥
+not_magic codec channels file has told e =
+    let magic : has_magic codec file ≡ true = (and_true (has_magic codec file) (not (ltb (length file) (header_len codec file))) has).0 in
+    let same : nat_eq (channels_told codec file) channels ≡ true = eq-eqb (channels_told codec file) channels told in
+    let us = (units_in codec file).whole in
+    let t1 : when (not (has_magic codec file) && not (may_have_magic codec file)) why.Magic ≡ None = ap (λ v. when (not v && not (may_have_magic codec file)) why.Magic) magic in
+    let t2 : when (has_header codec file && not (nat_eq (channels_told codec file) channels)) (why.Channels (channels_told codec file)) ≡ None =
+    (λ i. when (has i && not (same i)) (why.Channels (channels_told codec file))) in
+    let rest = option_map (λ k. why.Reserved (unit_place codec file k) (slice_index (map unit_type us) k)) (first_reserved codec us) in
+    not_by (first_reserved codec us) (unit_place codec file) (slice_index (map unit_type us)) ((λ i. first (sym t1 i ∷ sym t2 i ∷ rest ∷ [])) ∙ e)
+
+is_magic : (b : Bool) (w : StoreRefusal) → first (when b why.Magic ∷ None ∷ None ∷ []) ≡ Some w → why.Magic ≡ w
+is_magic true w e = ap (λ o. unwrap_or o w) e
+is_magic false w e = absurd cc
+
+-- octets with no whole header show at most that they lack a magic number
+lacks_magic : (codec : Codec) (channels : ℕ) (file : List ℕ) (w : StoreRefusal) → has_header codec file ≡ false → shown_refusal codec channels file ≡ Some w → why.Magic ≡ w
+lacks_magic codec channels file w f e =
+    let none : units_in codec file ≡ state [] [] = ap (λ v. units codec (cond v (drop (header_len codec file) file) [])) f in
+    let place = λ (k : ℕ). why.Reserved (unit_place codec file k) (slice_index (map unit_type (units_in codec file).whole) k) in
+    let c : when (has_header codec file && not (nat_eq (channels_told codec file) channels)) (why.Channels (channels_told codec file)) ≡ None =
+    ap (λ v. when (v && not (nat_eq (channels_told codec file) channels)) (why.Channels (channels_told codec file))) f in
+    let d : option_map place (first_reserved codec (units_in codec file).whole) ≡ None = ap (λ (u : Units). option_map place (first_reserved codec u.whole)) none in
+    let t = not (has_magic codec file) && not (may_have_magic codec file) in
+    is_magic t w ((λ i. first (when t why.Magic ∷ sym c i ∷ sym d i ∷ [])) ∙ e)
+
+-- a header that is wrong stays so
+no_header_more : (codec : Codec) (channels : ℕ) (file more : List ℕ) (w : StoreRefusal) → HeaderWrong codec channels file w
+    → has_header codec (file ++ more) ≡ true → channels_told codec (file ++ more) ≡ channels → ⊥
+no_header_more codec channels file more w h has told =
+    let all' = file ++ more in
+    elim (has_header codec file) as (λ v. has_header codec file ≡ v → ⊥) [
+      | true ↦ λ f.
+          let l = longer codec file more f in
+          let same : nat_eq (channels_told codec file) channels ≡ true = eq-eqb (channels_told codec file) channels (sym l.headed.told ∙ told) in
+          let wrong = h.wrong in
+          let z : true ≡ false = (λ i. sym f i && sym same i) ∙ wrong in
+          cc
+      | false ↦ λ f.
+          let m = lacks_magic codec channels file w f h.shown in
+          not_magic codec channels all' has told (shown_more codec channels file more w h.shown ∙ ap (λ v. Some v) (sym m))
+    ] refl
+
+pub wrong_header_more : (codec : Codec) (channels : ℕ) (file more : List ℕ) (w : StoreRefusal) → HeaderWrong codec channels file w
+    → RefusesHeader codec channels (shown_refusal codec channels) w (file ++ more)
+wrong_header_more codec channels file more w h =
+    let all' = file ++ more in
+    record {
+      refused = shown_more codec channels file more w h.shown;
+      header = elim (has_header_of codec channels all') as (λ v. has_header_of codec channels all' ≡ v → v ≡ false) [
+        | true ↦ λ e. (let p = and_true (has_header codec all') (nat_eq (channels_told codec all') channels) e in
+            absurd (no_header_more codec channels file more w h p.0 (eqb-true (channels_told codec all') channels p.1)))
+        | false ↦ λ e. refl
+      ] refl;
     }

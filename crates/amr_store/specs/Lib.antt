@@ -2,4 +2,5 @@ pub mod SinkLaws
 pub mod Written
 pub mod Sights
 pub mod Reading
+pub mod Telling
 pub mod Seeking

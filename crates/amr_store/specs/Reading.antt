@@ -56,7 +56,8 @@ IsUsable r = IsOpen r ⊎ HasEnded r
 abbrev pub IsSpent : StoreReader → Type 0
 IsSpent r = r.phase ≡ phase.Spent
 
--- what an answer leaves of a reader: blocks are given, the file ended, or no further call may be made
+-- what an answer leaves of a reader: blocks are given, the file ended, or no further call may be
+-- made
 abbrev pub Leaves : Result Step Failed → StoreReader → Type 0
 Leaves (Ok Ready) r = IsOpen r
 Leaves (Ok End) r = HasEnded r
@@ -108,14 +109,15 @@ pub record TookHeader (more : List ℕ) (old new : StoreReader) : Type 0 where
   pub given_is : HasGiven header new
   pub no_blocks : blocks_in old.codec old.channels header ≡ []
 
--- what a call for the header that read these octets did, by its answer
+-- what a call for the header that read these octets did, by its answer: a refusal is shown by the
+-- octets held, whatever stands behind them, or by them all, where the file ended
 abbrev pub Begins : Option (List ℕ) → Option (List ℕ) → List ℕ → StoreReader
     → Result Step Failed → StoreReader → Type 0
 Begins left left' more old (Ok Ready) new = Consumes left left' more × TookHeader more old new
 Begins left left' more old (Ok End) new = ⊥
 Begins left left' more old (Ok (Refused w)) new = let c = old.codec in let n = old.channels in
     Consumes left left' more × (held old ++ more ≡ held new)
-    × (RefusesHeader c n (shown_refusal c n) w (held new)
+    × (((behind : List ℕ) → RefusesHeader c n (shown_refusal c n) w (held new ++ behind))
     ⊎ (Exhausts left more × RefusesHeader c n (store_refusal c n) w (held new)))
 Begins left left' more old (Ok OverLimit) new = (x : ℕ) × Consumes left left' (more ++ x ∷ [])
     × (held old ++ more ≡ held new) × (taken_of new ≡ limit_of new)
@@ -133,7 +135,8 @@ pub record TookBlock (file more : List ℕ) (old : StoreReader) (cells : List Ce
       ≡ blocks_in old.codec old.channels file ++ frames_of cells ∷ []
   pub present : IsPresentBlock old.codec old.channels cells
 
--- what a call for the next block that read these octets did, by its answer
+-- what a call for the next block that read these octets did, by its answer: a refusal is shown by
+-- the octets held, whatever stands behind them, or by them all, where the file ended
 abbrev pub GoesOn : List ℕ → Option (List ℕ) → Option (List ℕ) → List ℕ → StoreReader
     → Result Step Failed → List Cell → StoreReader → Type 0
 GoesOn file left left' more old (Ok Ready) cells new = Consumes left left' more
@@ -143,7 +146,8 @@ GoesOn file left left' more old (Ok End) cells new = Consumes left left' more
 GoesOn file left left' more old (Ok (Refused w)) cells new =
     let c = old.codec in let n = old.channels in
     Consumes left left' more × (held old ++ more ≡ held new)
-    × (RefusesBlock c n file (shown_refusal c n) w (file ++ held new)
+    × (((behind : List ℕ)
+    → RefusesBlock c n file (shown_refusal c n) w ((file ++ held new) ++ behind))
     ⊎ (Exhausts left more × RefusesBlock c n file (store_refusal c n) w (file ++ held new)))
 GoesOn file left left' more old (Ok OverLimit) cells new = (x : ℕ)
     × Consumes left left' (more ++ x ∷ []) × (held old ++ more ≡ held new)

@@ -1,6 +1,6 @@
 -- How a reader of storage files reads until the header, or the next block, is shown. The reader is
 -- ours.
-use Rattle.std.specs.Prelude.{◌≡◌, ◌⊎◌, ◌+◌, ◌≤◌, ◌<◌, ℕ, List, [], ◌∷◌, ◌++◌, length, take, drop, Option, Result, Ok, Err}
+use Rattle.std.specs.Prelude.{◌≡◌, ◌⊎◌, ◌+◌, ℕ, List, [], ◌∷◌, ◌++◌, length, take, drop, Option, Result, Ok, Err}
 use Rattle.std.specs.Io.KnownBytes.{Consumes}
 use Rattle.amr_io.specs.Fault.{HasCause}
 use Rattle.amr_io.specs.declared.gate.Gate.TheVariants as gate
@@ -71,9 +71,9 @@ abbrev pub Seeks : Option (List ℕ) → Option (List ℕ) → StoreReader → R
 Seeks left left' old r new = (more : List ℕ) × SeeksBy left left' more old r new
     × (held old ++ more ≡ held new) × (taken_of new ≡ taken_of old + length more)
 
--- what reading promises, whatever it answers: what it came to, that nothing is read where the octets
--- held show the answer, that the reader is the same but for what it holds, and that it fails only
--- where the source's faults rose
+-- what reading promises, whatever it answers: what it came to, that nothing is read where the
+-- octets held show the answer, that the reader is the same but for what it holds, and that it fails
+-- only where the source's faults rose
 pub record Sought {S : Type 0} (s : source.Ghosts S) (before after : S) (old : StoreReader)
     (r : Result Found Failed) (new : StoreReader) : Type 0 where
   pub seeks : Seeks (s.left before) (s.left after) old r new

@@ -1,5 +1,5 @@
--- What octets held show of the header of a storage file, or of the next block (RFC 4867, 5), frame by
--- frame. The reader is ours.
+-- What octets held show of the header of a storage file, or of the next block (RFC 4867, 5), frame
+-- by frame. The reader is ours.
 use Rattle.std.specs.Prelude.{◌≡◌, ◌⊎◌, ◌+◌, ◌*◌, ◌≤◌, ◌<◌, ℕ, cond, nat_eq, false, true, List, [], ◌∷◌, ◌++◌, length, map, take, drop, IsTrue, Some, None}
 use Rattle.amr_frame.specs.declared.codec.Codec.{Codec}
 use Rattle.amr_frame.specs.declared.cell.Cell.{Cell}
@@ -33,9 +33,9 @@ pub record HeaderWhole (codec : Codec) (channels : ℕ) (file : List ℕ) (n : �
 
 -- the octets show a fault, and no header of these channels
 pub record HeaderWrong (codec : Codec) (channels : ℕ) (file : List ℕ) (w : StoreRefusal) : Type 0
-    where
-  pub shown : shown_refusal codec channels file ≡ Some w
-  pub wrong : has_header_of codec channels file ≡ false
+  where
+    pub shown : shown_refusal codec channels file ≡ Some w
+    pub wrong : has_header_of codec channels file ≡ false
 
 -- what the front of a file shows of its header
 abbrev pub HeaderShows : Codec → ℕ → List ℕ → Sight → Type 0
@@ -50,8 +50,8 @@ told_sight chan channels n =
 
 -- why a file is refused that ends in its header
 pub record HeaderCuts (codec : Codec) (channels : ℕ) (file : List ℕ) (w : StoreRefusal) : Type 0
-    where
-  pub cut : cut_refusal codec channels file ≡ Some w
+  where
+    pub cut : cut_refusal codec channels file ≡ Some w
 
 -- the octets begin with this frame of a type that there is
 pub record IsFirst (codec : Codec) (octets unit more : List ℕ) : Type 0 where
@@ -133,7 +133,8 @@ pub record BeginsFrame (codec : Codec) (octets : List ℕ) : Type 0 where
 
 -- a cell holds the frame that stands first in octets, which is one of the codec
 pub record ReadsFrame (codec : Codec) (octets : List ℕ) (cell : Cell) : Type 0 where
-  pub frame : (unit more : List ℕ) → IsFirst codec octets unit more → frame_of cell ≡ frame_in codec unit
+  pub frame : (unit more : List ℕ) → IsFirst codec octets unit more
+      → frame_of cell ≡ frame_in codec unit
   pub valid : IsFrame codec (frame_of cell)
   pub present : IsTrue cell.present
 

@@ -7,7 +7,8 @@ use amr_bits::BitSlice;
 use amr_frame::{Cell, Codec, Kind, bits_of, kind_of, octets_of};
 use spec_store::StoreRefusal;
 
-// What stands first in octets: less than a frame, a frame of `size` octets, or one of a reserved type.
+// What stands first in octets: less than a frame, a frame of `size` octets, or one of a reserved
+// type.
 #[derive(Clone, Copy, Debug, PartialEq, Eq)]
 pub(crate) enum First {
     Part,

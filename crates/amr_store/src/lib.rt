@@ -10,8 +10,10 @@ mod writer;
 
 pub use reader::StoreReader;
 pub use spec_store::StoreRefusal;
-pub use step::{Phase, Step};
+pub use step::Step;
 pub use writer::{Stage, StoreWriter, write_cells};
 
+#[cfg(test)]
+mod reader_tests;
 #[cfg(test)]
 mod tests;

@@ -31,6 +31,7 @@ pub struct StoreReader {
 
 impl StoreReader {
     ghost use Rattle.amr_store.specs.Reading.{Began, Counts, HasEnded, HasGiven, IsFresh, IsLeft, IsUsable, ShowsNothing, WentOn, channels_of, codec_of, given, held, limit_of};
+    ghost use Rattle.amr_store.specs.Telling.{TellsHeaderIn, TellsNextIn};
     ghost use Rattle.amr_store.specs.Seeking.{Ends, FillsCells, HasBlock, Looks, Settles, Sought, len_of};
     ghost use Rattle.amr_store.specs.declared.step.Sight.TheVariants as sight;
 
@@ -48,7 +49,7 @@ impl StoreReader {
         requires limit { 0 < limit }
 
         ensures fresh { IfOk result (λ r. IsFresh r) }
-        ensures format { IfOk result (λ r. (r.codec ≡ codec) × (r.channels ≡ channels)) }
+        ensures format { IfOk result (λ r. (codec_of r ≡ codec) × (channels_of r ≡ channels)) }
         ensures limit { IfOk result (λ r. limit_of r ≡ limit) }
     {
         let inlet = Inlet::create(alloc, ROOM, limit)?;
@@ -74,7 +75,12 @@ impl StoreReader {
     {
         match self.phase {
             Phase::Fresh => header_sight(self.codec, self.channels, self.inlet.held()),
-            Phase::Open | Phase::Ended | Phase::Spent => block_sight(self.codec, self.channels, self.inlet.held(), self.place()),
+            Phase::Open | Phase::Ended | Phase::Spent => block_sight(
+                self.codec,
+                self.channels,
+                self.inlet.held(),
+                self.place(),
+            ),
         }
     }
 
@@ -84,9 +90,7 @@ impl StoreReader {
         ensures { Ends self.now (held self.now) at result }
     {
         match self.phase {
-            Phase::Fresh => {
-                Found::Cut(header_cut(self.codec, self.channels, self.inlet.held()))
-            }
+            Phase::Fresh => Found::Cut(header_cut(self.codec, self.channels, self.inlet.held())),
             Phase::Open | Phase::Ended | Phase::Spent => block_end(
                 self.codec,
                 self.channels,
@@ -150,14 +154,15 @@ impl StoreReader {
         }
     }
 
-    /// Reads the header. It is the first call, and answers `Ready` where the header is whole and that of
-    /// the codec and the channels.
+    /// Reads the header. It is the first call, and answers `Ready` where the header is whole and
+    /// that of the codec and the channels. It never answers `End`.
     ///
-    /// It reads only while the octets taken don't show the answer. `Refused`, `OverLimit` and `Failed`
-    /// spend the reader. `Failed` comes only where the source's faults rose.
+    /// It reads only while the octets taken don't show the answer. `Refused`, `OverLimit` and
+    /// `Failed` spend the reader. `Failed` comes only where the source's faults rose.
     pub fn begin<S: Source>(&mut self, source: &mut S) -> Result<Step, Failed>
         requires fresh { IsFresh self.old }
 
+        ensures exact { TellsHeaderIn (S.left source.old) self.old result }
         ensures began { Began (S.left source.old) (S.left source.new) self.old result self.new }
         ensures left { IsLeft self.old result self.new }
         ensures cause { HasCause (S.faults source.old) (S.faults source.new) result }
@@ -169,8 +174,8 @@ impl StoreReader {
     /// Gives the next block in `cells`, one frame for each channel, or says why there is none.
     ///
     /// It reads only while the octets taken don't show the answer. `cells` is as it was after every
-    /// answer but `Ready`. `End` is given again by later calls, without a read. `Refused`, `OverLimit`
-    /// and `Failed` spend the reader. `Failed` comes only where the source's faults rose.
+    /// answer but `Ready`. `End` is given again by later calls, without a read. `Refused`,
+    /// `OverLimit` and `Failed` spend the reader. `Failed` comes only where the source's faults rose.
     pub fn next_block<S: Source>(
         &mut self,
         source: &mut S,
@@ -179,6 +184,8 @@ impl StoreReader {
         requires usable { IsUsable self.old }
         requires cells { length cells.old ≡ channels_of self.old }
 
+        ensures exact { (front : List ℕ) → HasGiven front self.old
+            → TellsNextIn (S.left source.old) front self.old result cells.new }
         ensures went_on { (file : List ℕ) → HasGiven file self.old
             → WentOn file (S.left source.old) (S.left source.new) self.old result cells.new
             self.new }

@@ -16,16 +16,16 @@ pub enum Step {
     OverLimit,
 }
 
-/// How far a file is read.
+// How far a file is read.
 #[derive(Clone, Copy, Debug, PartialEq, Eq)]
-pub enum Phase {
-    /// The header isn't read.
+pub(crate) enum Phase {
+    // The header isn't read.
     Fresh,
-    /// Blocks are given.
+    // Blocks are given.
     Open,
-    /// The file ended on the edge of a block.
+    // The file ended on the edge of a block.
     Ended,
-    /// The file was refused, has more octets than the limit allows, or a read failed.
+    // The file was refused, the limit was passed, or a read failed.
     Spent,
 }
 

@@ -1,4 +1,4 @@
-use Rattle.std.proofs.Common.{◌≡◌, ◌+◌, ◌≤◌, get_or, ◌/◌, ◌%◌, subst, sym, ap, ◌∙◌, arith, length}
+use Rattle.std.proofs.Common.{◌≡◌, ◌+◌, get_or, ◌/◌, ◌%◌, subst, sym, ap, ◌∙◌, arith}
 use denote.Enum.Bare.{sameb}
 use Rattle.amr_frame.specs.contracts.codec.Kind.{the_type}
 use Rattle.amr_frame.specs.declared.codec.Kind.TheVariants.{Reserved}

@@ -1,4 +1,4 @@
-use Rattle.std.proofs.Common.{◌∙◌, arith, length}
+use Rattle.std.proofs.Common.{◌∙◌, arith}
 use Rattle.amr_store.proofs.FrameRead.{first_is, frame_same}
 use Rattle.amr_store.proofs.block.read_frame.Goals as goal
 

@@ -1,4 +1,4 @@
-use Rattle.std.proofs.Common.{◌≡◌, ◌+◌, ◌-◌, ◌%◌, ap, ◌∙◌, subst, sym, length, arith, rules}
+use Rattle.std.proofs.Common.{◌≡◌, ◌+◌, ◌-◌, ◌%◌, ap, ◌∙◌, subst, sym, length, arith}
 use Rattle.std.specs.Prelude.{slice_index, false, true}
 use Rattle.spec_store.specs.StorageFile.{single, multi}
 use Rattle.spec_store.specs.StorageReading.{begins_with}

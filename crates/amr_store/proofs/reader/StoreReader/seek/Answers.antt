@@ -1,4 +1,4 @@
-use Rattle.std.proofs.Common.{ℕ, ◌≡◌, ◌++◌, arith, ◌∙◌, ap, inr, length, length-append, append_assoc, rules, sym, subst}
+use Rattle.std.proofs.Common.{ℕ, ◌++◌, arith, ◌∙◌, ap, inr, length-append, append_assoc, sym, subst}
 use Rattle.std.proofs.KnownBytes.{Consumes-trans}
 use Rattle.amr_store.specs.declared.step.Sight.TheVariants as sight
 use Rattle.amr_store.specs.Reading.{held}
@@ -55,8 +55,8 @@ returns-in-End g c =
     let part = looks_same old now (held now) _ kept.phase_is kept.same stays c.in-Part.ensures in
     record {
       sought = end_sought g.S.Source c.args.source.now c.seeking.source c.fill.new.source old now _ so_far.0 c.in-Part.at c.end.result
-      kept.phase_is (record { codec = kept.same.codec; channels = kept.same.channels; limit = ap (λ t. t.limit) tank ∙ kept.same.limit }) (ap (λ t. t.held) tank)
-      so_far.1 ended.0 ended.1 so_far.2 (ap (λ t. t.taken) tank ∙ so_far.3) kept.quiet part c.end.ensures (c.in_ok-fill.ensures.cause ∙ kept.faults);
+          kept.phase_is (record { codec = kept.same.codec; channels = kept.same.channels; limit = ap (λ t. t.limit) tank ∙ kept.same.limit }) (ap (λ t. t.held) tank)
+          so_far.1 ended.0 ended.1 so_far.2 (ap (λ t. t.taken) tank ∙ so_far.3) kept.quiet part c.end.ensures (c.in_ok-fill.ensures.cause ∙ kept.faults);
     }
 
 pub returns-in-OverLimit : goal.returns-in-OverLimit
