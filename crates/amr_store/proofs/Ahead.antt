@@ -27,7 +27,8 @@ pub record IsBare (codec : Codec) (channels : ℕ) (file : List ℕ) : Type 0 wh
   pub is_file : store_refusal codec channels file ≡ None
   pub no_blocks : blocks_in codec channels file ≡ []
 
-bare : (codec : Codec) (channels : ℕ) (file : List ℕ) → 1 ≤ channels → Headed codec channels file [] → IsBare codec channels file
+bare : (codec : Codec) (channels : ℕ) (file : List ℕ) → 1 ≤ channels → Headed codec channels file []
+    → IsBare codec channels file
 bare codec channels file one h =
     let none : 0 ≡ 0 * channels + 0 = omega arith in
     let r : IsRead codec channels file [] = record {
@@ -46,20 +47,24 @@ one_long : (codec : Codec) (more : List ℕ) → header_len codec (single codec 
 one_long Amr more = refl
 one_long AmrWb more = refl
 
-many_long : (codec : Codec) (a b c d : ℕ) (more : List ℕ) → header_len codec (multi codec ++ (a ∷ b ∷ c ∷ d ∷ more)) ≡ length (multi codec) + 4
+many_long : (codec : Codec) (a b c d : ℕ) (more : List ℕ)
+    → header_len codec (multi codec ++ (a ∷ b ∷ c ∷ d ∷ more)) ≡ length (multi codec) + 4
 many_long Amr a b c d more = refl
 many_long AmrWb a b c d more = refl
 
-many_front : (codec : Codec) (a b c d : ℕ) (more : List ℕ) → take (length (multi codec) + 4) (multi codec ++ (a ∷ b ∷ c ∷ d ∷ more)) ≡ multi codec ++ (a ∷ b ∷ c ∷ d ∷ [])
+many_front : (codec : Codec) (a b c d : ℕ) (more : List ℕ)
+    → take (length (multi codec) + 4) (multi codec ++ (a ∷ b ∷ c ∷ d ∷ more)) ≡ multi codec ++ (a ∷ b ∷ c ∷ d ∷ [])
 many_front Amr a b c d more = refl
 many_front AmrWb a b c d more = refl
 
-bare_by : (codec : Codec) (channels : ℕ) (file : List ℕ) → 1 ≤ channels → channels_told codec file ≡ channels → Spelled codec file → IsBare codec channels (take (header_len codec file) file)
+bare_by : (codec : Codec) (channels : ℕ) (file : List ℕ) → 1 ≤ channels → channels_told codec file ≡ channels
+    → Spelled codec file → IsBare codec channels (take (header_len codec file) file)
 bare_by codec channels file one told (OfOne m e) =
     let h = one_channel codec m in
     let n : 1 ≡ channels = sym h.told ∙ ap (channels_told codec) (sym e) ∙ told in
     let front : take (header_len codec file) file ≡ single codec =
-    (λ i. take (header_len codec (e i)) (e i)) ∙ ap (λ k. take k (single codec ++ m)) (one_long codec m) ∙ take-append_seam (single codec) m in
+    (λ i. take (header_len codec (e i)) (e i)) ∙ ap (λ k. take k (single codec ++ m)) (one_long codec m)
+    ∙ take-append_seam (single codec) m in
     let alone : Headed codec 1 (single codec) [] = subst (λ f. Headed codec 1 f []) (append-nil (single codec)) (one_channel codec []) in
     subst (IsBare codec channels) (sym front) (bare codec channels (single codec) one (subst (λ k. Headed codec k (single codec) []) n alone))
 bare_by codec channels file one told (OfMany a b c d m e) =
@@ -67,19 +72,23 @@ bare_by codec channels file one told (OfMany a b c d m e) =
     let n : d % 16 ≡ channels = sym h.told ∙ ap (channels_told codec) (sym e) ∙ told in
     let head = multi codec ++ (a ∷ b ∷ c ∷ d ∷ []) in
     let front : take (header_len codec file) file ≡ head =
-    (λ i. take (header_len codec (e i)) (e i)) ∙ ap (λ k. take k (multi codec ++ (a ∷ b ∷ c ∷ d ∷ m))) (many_long codec a b c d m) ∙ many_front codec a b c d m in
+    (λ i. take (header_len codec (e i)) (e i))
+    ∙ ap (λ k. take k (multi codec ++ (a ∷ b ∷ c ∷ d ∷ m))) (many_long codec a b c d m) ∙ many_front codec a b c d m in
     subst (IsBare codec channels) (sym front) (bare codec channels head one (subst (λ k. Headed codec k head []) n (several codec a b c d [])))
 
-pub header_bare : (codec : Codec) (channels : ℕ) (file : List ℕ) (n : ℕ) → 1 ≤ channels → HeaderWhole codec channels file n → IsBare codec channels (take n file)
+pub header_bare : (codec : Codec) (channels : ℕ) (file : List ℕ) (n : ℕ) → 1 ≤ channels
+    → HeaderWhole codec channels file n → IsBare codec channels (take n file)
 header_bare codec channels file n one h =
     subst (λ k. IsBare codec channels (take k file)) (sym h.len) (bare_by codec channels file one h.told (spelled codec file h.has))
 
 -- less than a header shows none
-pub part_no_header : (codec : Codec) (channels : ℕ) (file : List ℕ) → HeaderPart codec channels file → ShowsNoHeader codec channels file
+pub part_no_header : (codec : Codec) (channels : ℕ) (file : List ℕ) → HeaderPart codec channels file
+    → ShowsNoHeader codec channels file
 part_no_header codec channels file h = record { shown = h.shown; header = ap (λ v. v && nat_eq (channels_told codec file) channels) h.none }
 
 -- a file that ends in its header is refused so
-pub cut_no_header : (codec : Codec) (channels : ℕ) (file : List ℕ) (w : StoreRefusal) → HeaderPart codec channels file → HeaderCuts codec channels file w
+pub cut_no_header : (codec : Codec) (channels : ℕ) (file : List ℕ) (w : StoreRefusal) → HeaderPart codec channels file
+    → HeaderCuts codec channels file w
     → RefusesHeader codec channels (store_refusal codec channels) w file
 cut_no_header codec channels file w h k =
     let shown = h.shown in let cut = k.cut in
@@ -93,7 +102,8 @@ module _ (codec : Codec) (channels : ℕ) (file : List ℕ) (one : 1 ≤ channel
   block_ahead octets us are n = block_read codec channels file octets us one is are n
 
   -- less than a block shows nothing
-  pub part_ahead : (octets : List ℕ) (at : ℕ) → BlockPart codec channels octets at → ShowsNothing codec channels file (file ++ octets)
+  pub part_ahead : (octets : List ℕ) (at : ℕ) → BlockPart codec channels octets at
+      → ShowsNothing codec channels file (file ++ octets)
   part_ahead octets at h =
       let block = take at octets in let rest = drop at octets in
       let us = h.hold.units in
@@ -104,11 +114,13 @@ module _ (codec : Codec) (channels : ℕ) (file : List ℕ) (one : 1 ≤ channel
       })
 
   -- where the file ends there, it is refused
-  no_frames : (us : List (List ℕ)) (octets : List ℕ) → AreUnits codec us octets → 0 < length octets → ltb 0 (length us) ≡ true
+  no_frames : (us : List (List ℕ)) (octets : List ℕ) → AreUnits codec us octets → 0 < length octets
+      → ltb 0 (length us) ≡ true
   no_frames [] octets are some = (let size = ap length are.join in absurd (omega (arith, size, some)))
   no_frames (u ∷ us) octets are some = lt-ltb 0 (suc (length us)) (omega arith)
 
-  end_ahead : (octets : List ℕ) (at : ℕ) (w : StoreRefusal) → BlockPart codec channels octets at → BlockEnds octets (length file) at (found.Cut w)
+  end_ahead : (octets : List ℕ) (at : ℕ) (w : StoreRefusal) → BlockPart codec channels octets at
+      → BlockEnds octets (length file) at (found.Cut w)
       → cut_refusal codec channels (file ++ (take at octets ++ drop at octets)) ≡ Some w
   end_ahead octets at w h e =
       let block = take at octets in let rest = drop at octets in
@@ -128,7 +140,8 @@ module _ (codec : Codec) (channels : ℕ) (file : List ℕ) (one : 1 ≤ channel
             cut ∙ (λ i. first (when (ltb 0 (length (none i))) (why.Truncated (length file + length block)) ∷ when (some i) (why.BlockRest (length file)) ∷ [])) ∙ ap (λ v. Some v) (sym f.2))
       ]
 
-  pub cut_ahead : (octets : List ℕ) (at : ℕ) (w : StoreRefusal) → BlockPart codec channels octets at → BlockEnds octets (length file) at (found.Cut w)
+  pub cut_ahead : (octets : List ℕ) (at : ℕ) (w : StoreRefusal) → BlockPart codec channels octets at
+      → BlockEnds octets (length file) at (found.Cut w)
       → RefusesBlock codec channels file (store_refusal codec channels) w (file ++ octets)
   cut_ahead octets at w h e =
       let n = part_ahead octets at h in

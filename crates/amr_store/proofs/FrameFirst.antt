@@ -67,7 +67,8 @@ holds_reserved codec (o ∷ rest) some small e =
 
 -- octets that begin with a whole frame
 pub holds_frame : (codec : Codec) (octets : List ℕ) → 0 < length octets → get_or octets 0 0 < 256
-    → is_reserved codec (get_or octets 0 0 / 8 % 16) ≡ false → 1 + octets_in codec (get_or octets 0 0 / 8 % 16) ≤ length octets
+    → is_reserved codec (get_or octets 0 0 / 8 % 16) ≡ false
+    → 1 + octets_in codec (get_or octets 0 0 / 8 % 16) ≤ length octets
     → HoldsFrame codec octets (1 + octets_in codec (get_or octets 0 0 / 8 % 16))
 holds_frame codec [] some small e room = absurd (omega arith)
 holds_frame codec (o ∷ rest) some small e room =
@@ -104,12 +105,15 @@ some_by [] e = absurd cc
 some_by (o ∷ rest) e = omega arith
 
 -- so many frames, and one more
-pub holds_more : (codec : Codec) (k n at : ℕ) (octets : List ℕ) → HoldsFrames codec k octets at → HoldsFrame codec (drop at octets) n
+pub holds_more : (codec : Codec) (k n at : ℕ) (octets : List ℕ) → HoldsFrames codec k octets at
+    → HoldsFrame codec (drop at octets) n
     → HoldsFrames codec (k + 1) octets (at + n)
 holds_more codec k n at octets h f =
     let unit = take n (drop at octets) in
     let join : take (at + n) octets ≡ flat_map (λ (u : List ℕ). u) (h.units ++ unit ∷ []) =
-    take-add at n octets ∙ ap (λ t. t ++ unit) h.are.join ∙ ap (λ t. flat_map (λ (u : List ℕ). u) h.units ++ t) (sym (append-nil unit)) ∙ sym (flat_map-append (λ (u : List ℕ). u) h.units (unit ∷ [])) in
+    take-add at n octets ∙ ap (λ t. t ++ unit) h.are.join
+    ∙ ap (λ t. flat_map (λ (u : List ℕ). u) h.units ++ t) (sym (append-nil unit))
+    ∙ sym (flat_map-append (λ (u : List ℕ). u) h.units (unit ∷ [])) in
     let left = length-drop at octets in
     let room = f.within in
     let under = h.within in

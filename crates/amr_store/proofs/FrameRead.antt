@@ -29,7 +29,8 @@ pub record FirstIs (codec : Codec) (octets : List ℕ) : Type 0 where
   pub known : is_reserved codec (get_or octets 0 0 / 8 % 16) ≡ false
   pub room : 8 + bits_in codec (get_or octets 0 0 / 8 % 16) ≤ 8 * length octets
 
-unit_room : (codec : Codec) (o : ℕ) (unit more octets : List ℕ) → o < 256 → IsFirst codec octets (o ∷ unit) more → FirstIs codec octets
+unit_room : (codec : Codec) (o : ℕ) (unit more octets : List ℕ) → o < 256 → IsFirst codec octets (o ∷ unit) more
+    → FirstIs codec octets
 unit_room codec o unit more octets small h =
     let type : unit_type (o ∷ unit) ≡ o / 8 % 16 = type_in o unit small in
     let size : suc (length unit) ≡ 1 + octets_in codec (unit_type (o ∷ unit)) = eqb-true (suc (length unit)) (1 + octets_in codec (unit_type (o ∷ unit))) h.whole in
@@ -41,7 +42,8 @@ unit_room codec o unit more octets small h =
       room = omega (arith, size, same, l);
     })
 
-pub first_is : (codec : Codec) (octets : List ℕ) → ((k : ℕ) → get_or octets k 0 < 256) → BeginsFrame codec octets → FirstIs codec octets
+pub first_is : (codec : Codec) (octets : List ℕ) → ((k : ℕ) → get_or octets k 0 < 256) → BeginsFrame codec octets
+    → FirstIs codec octets
 first_is codec octets small h = by_unit h.unit h.first
   where
     by_unit : (unit : List ℕ) → IsFirst codec octets unit h.more → FirstIs codec octets
@@ -57,12 +59,14 @@ frame_by codec o u more small e =
     let size : suc (length u) ≡ 1 + octets_in codec (unit_type (o ∷ u)) = eqb-true (suc (length u)) (1 + octets_in codec (unit_type (o ∷ u))) e in
     let same : octets_in codec (unit_type (o ∷ u)) ≡ octets_in codec (o / 8 % 16) = ap (octets_in codec) type in
     let bits : bits_at (o ∷ u ++ more) 8 m ≡ bits_at (o ∷ u) 8 (bits_in codec (unit_type (o ∷ u))) =
-    sym (run-rest (o ∷ u ++ more) 0 8 (8 + m) m refl) ∙ ap (drop 8) (run-append (o ∷ u) more (8 + m) (omega (arith, size, same)))
+    sym (run-rest (o ∷ u ++ more) 0 8 (8 + m) m refl)
+    ∙ ap (drop 8) (run-append (o ∷ u) more (8 + m) (omega (arith, size, same)))
     ∙ run-rest (o ∷ u) 0 8 (8 + m) m refl ∙ ap (λ t. bits_at (o ∷ u) 8 (bits_in codec t)) (sym type) in
     let back = sym type in
     λ i. frame_with (back i) (nat_eq (o / 4 % 2) 1) (bits i)
 
-pub frame_same : (codec : Codec) (octets unit more : List ℕ) (n : ℕ) → ((k : ℕ) → get_or octets k 0 < 256) → IsFirst codec octets unit more
+pub frame_same : (codec : Codec) (octets unit more : List ℕ) (n : ℕ) → ((k : ℕ) → get_or octets k 0 < 256)
+    → IsFirst codec octets unit more
     → n ≡ bits_in codec (get_or octets 0 0 / 8 % 16)
     → frame_with (get_or octets 0 0 / 8 % 16) (nat_eq (get_or octets 0 0 / 4 % 2) 1) (bits_at octets 8 n) ≡ frame_in codec unit
 frame_same codec octets [] more n small f e = (let z = eqb-true 0 (1 + octets_in codec (unit_type [])) f.whole in absurd (omega (arith, z)))
@@ -88,7 +92,8 @@ pub record Filling (codec : Codec) (octets : List ℕ) (n at k : ℕ) (cells : L
   pub present : AllByRecursion (λ (cell : Cell). IsTrue cell.present) (take k cells)
 
 -- before the first
-pub fill_start : (codec : Codec) (octets : List ℕ) (cells : List Cell) → AreFrames codec (length cells) octets → Filling codec octets (length cells) 0 0 cells
+pub fill_start : (codec : Codec) (octets : List ℕ) (cells : List Cell) → AreFrames codec (length cells) octets
+    → Filling codec octets (length cells) 0 0 cells
 fill_start codec octets cells h = record {
   done = [];
   left = h.units;
@@ -117,10 +122,13 @@ record Left (codec : Codec) (octets : List ℕ) (n at k : ℕ) (cells : List Cel
   valid : AllByRecursion (IsFrame codec) (frames_of (take k cells))
   present : AllByRecursion (λ (cell : Cell). IsTrue cell.present) (take k cells)
 
-a_frame_left : (codec : Codec) (octets : List ℕ) (n at k : ℕ) (cells : List Cell) → Filling codec octets n at k cells → k < n → Left codec octets n at k cells
+a_frame_left : (codec : Codec) (octets : List ℕ) (n at k : ℕ) (cells : List Cell) → Filling codec octets n at k cells
+    → k < n → Left codec octets n at k cells
 a_frame_left codec octets n at k cells h under = by_left h.left h.are h.here h.all
   where
-    by_left : (left : List (List ℕ)) → AreUnits codec (h.done ++ left) octets → drop at octets ≡ flat_map (λ (u : List ℕ). u) left → length (h.done ++ left) ≡ n → Left codec octets n at k cells
+    by_left : (left : List (List ℕ)) → AreUnits codec (h.done ++ left) octets
+        → drop at octets ≡ flat_map (λ (u : List ℕ). u) left → length (h.done ++ left) ≡ n
+        → Left codec octets n at k cells
     by_left [] are here all = (let l = length-append h.done [] in let e = h.count in absurd (omega (arith, l, e, all, under)))
     by_left (unit ∷ more) are here all =
         let whole = split_all (λ u. is_unit codec u ≡ true) h.done (unit ∷ more) are.whole in
@@ -140,17 +148,21 @@ a_frame_left codec octets n at k cells h under = by_left h.left h.are h.here h.a
         }
 
 -- the next frame stands first in what is left
-pub fill_next : (codec : Codec) (octets : List ℕ) (n at k : ℕ) (cells : List Cell) → Filling codec octets n at k cells → k < n → BeginsFrame codec (drop at octets)
+pub fill_next : (codec : Codec) (octets : List ℕ) (n at k : ℕ) (cells : List Cell) → Filling codec octets n at k cells
+    → k < n → BeginsFrame codec (drop at octets)
 fill_next codec octets n at k cells h under =
     let l = a_frame_left codec octets n at k cells h under in
     record { unit = l.unit; more = flat_map (λ u. u) l.more; first = l.first }
 
 -- it takes up the octets that its type has
-unit_size : (codec : Codec) (unit : List ℕ) (cell : Cell) → is_unit codec unit ≡ true → frame_of cell ≡ frame_in codec unit → length unit ≡ 1 + octets_in codec cell.ft
-unit_size codec unit cell e f = eqb-true (length unit) (1 + octets_in codec (unit_type unit)) e ∙ ap (λ (g : Frame). 1 + octets_in codec g.ft) (sym f)
+unit_size : (codec : Codec) (unit : List ℕ) (cell : Cell) → is_unit codec unit ≡ true
+    → frame_of cell ≡ frame_in codec unit → length unit ≡ 1 + octets_in codec cell.ft
+unit_size codec unit cell e f = eqb-true (length unit) (1 + octets_in codec (unit_type unit)) e
+    ∙ ap (λ (g : Frame). 1 + octets_in codec g.ft) (sym f)
 
 -- with one more
-pub fill_more : (codec : Codec) (octets : List ℕ) (n at k size : ℕ) (cells : List Cell) (cell : Cell) → Filling codec octets n at k cells → k < n
+pub fill_more : (codec : Codec) (octets : List ℕ) (n at k size : ℕ) (cells : List Cell) (cell : Cell)
+    → Filling codec octets n at k cells → k < n
     → ReadsFrame codec (drop at octets) cell → size ≡ octets_in codec cell.ft
     → (at + (1 + size) ≤ length octets) × Filling codec octets n (at + (1 + size)) (k + 1) (set cells k cell)
 fill_more codec octets n at k size cells cell h under r e =
@@ -158,7 +170,8 @@ fill_more codec octets n at k size cells cell h under r e =
     let frame = r.frame l.unit (flat_map (λ u. u) l.more) l.first in
     let long : length l.unit ≡ 1 + size = unit_size codec l.unit cell l.first.whole frame ∙ ap (λ m. 1 + m) (sym e) in
     let rest : drop (at + (1 + size)) octets ≡ flat_map (λ (u : List ℕ). u) l.more =
-    sym (drop-drop (1 + size) at octets) ∙ ap (drop (1 + size)) l.first.join ∙ ap (λ m. drop m (l.unit ++ flat_map (λ (u : List ℕ). u) l.more)) (sym long)
+    sym (drop-drop (1 + size) at octets) ∙ ap (drop (1 + size)) l.first.join
+    ∙ ap (λ m. drop m (l.unit ++ flat_map (λ (u : List ℕ). u) l.more)) (sym long)
     ∙ drop-append_seam l.unit (flat_map (λ (u : List ℕ). u) l.more) in
     let left = length-drop at octets in
     let both : length (drop at octets) ≡ length l.unit + length (flat_map (λ (u : List ℕ). u) l.more) = ap length l.first.join ∙ length-append l.unit (flat_map (λ (u : List ℕ). u) l.more) in
@@ -180,14 +193,16 @@ fill_more codec octets n at k size cells cell h under r e =
         count = length-append l.done (l.unit ∷ []) ∙ ap (λ m. m + 1) l.count;
         all = ap length joined ∙ l.all;
         size = length-set cells k cell ∙ size_is;
-        frames = frames ∙ (let a = l.frames in λ i. a i ++ frame i ∷ []) ∙ sym (map-append (frame_in codec) l.done (l.unit ∷ []));
+        frames = frames ∙ (let a = l.frames in λ i. a i ++ frame i ∷ [])
+            ∙ sym (map-append (frame_in codec) l.done (l.unit ∷ []));
         valid = subst (AllByRecursion (IsFrame codec)) (sym frames) valid;
         present = subst (AllByRecursion (λ (cell : Cell). IsTrue cell.present)) (sym front) present;
       },
     )
 
 -- behind the last
-pub fill_end : (codec : Codec) (octets : List ℕ) (n at k : ℕ) (cells : List Cell) → Filling codec octets n at k cells → n ≤ k → ReadsBlock codec octets cells
+pub fill_end : (codec : Codec) (octets : List ℕ) (n at k : ℕ) (cells : List Cell) → Filling codec octets n at k cells
+    → n ≤ k → ReadsBlock codec octets cells
 fill_end codec octets n at k cells h over =
     let all = h.all in let count = h.count in let size = h.size in
     let l = length-append h.done h.left in

@@ -21,7 +21,8 @@ pub record IsHeader (codec : Codec) (file : List ℕ) (chan n : ℕ) : Type 0 wh
   pub within : n ≤ length file
 
 -- behind the magic number of one channel
-pub one_header : (codec : Codec) (file : List ℕ) → begins_with (multi codec) file ≡ false → begins_with (single codec) file ≡ true
+pub one_header : (codec : Codec) (file : List ℕ) → begins_with (multi codec) file ≡ false
+    → begins_with (single codec) file ≡ true
     → length (single codec) ≤ length file → IsHeader codec file 1 (length (single codec))
 one_header codec file f s room =
     let n = length (single codec) in
@@ -41,7 +42,8 @@ either false b e = e
 
 -- behind that of several channels and the description
 pub several_header : (codec : Codec) (file : List ℕ) → begins_with (multi codec) file ≡ true
-    → length (multi codec) + 4 ≤ length file → IsHeader codec file (slice_index file (length (multi codec) + 3) % 16) (length (multi codec) + 4)
+    → length (multi codec) + 4 ≤ length file
+    → IsHeader codec file (slice_index file (length (multi codec) + 3) % 16) (length (multi codec) + 4)
 several_header codec file f room =
     let n = length (multi codec) in
     let long : header_len codec file ≡ n + 4 = ap (λ v. cond v (length (cond v (multi codec) (single codec)) + 4) (length (cond v (multi codec) (single codec)))) f in

@@ -19,7 +19,8 @@ use Rattle.amr_store.specs.Reading.{Exhausts, IsSameReader, given, held, taken_o
 use Rattle.amr_store.specs.Seeking.{Ends, EndsBy, Looks, LooksBy, LooksPart, SeeksBy, Sought, len_of}
 
 -- less than a block is short
-block_short : (codec : Codec) (channels : ℕ) (octets : List ℕ) (at : ℕ) → BlockPart codec channels octets at → channels ≤ 6 → length octets < 2 ^ 16
+block_short : (codec : Codec) (channels : ℕ) (octets : List ℕ) (at : ℕ) → BlockPart codec channels octets at
+    → channels ≤ 6 → length octets < 2 ^ 16
 block_short codec channels octets at h most =
     let left = length-drop at octets in
     let few = h.part.few in
@@ -28,7 +29,8 @@ block_short codec channels octets at h most =
     omega (arith, left, few, before, fewer, most)
 
 -- and so is less than a header
-short_by : (p : Phase) (codec : Codec) (channels place : ℕ) (octets : List ℕ) (at : ℕ) → LooksBy p codec channels place octets (sight.Part at) → channels ≤ 6 → length octets < 2 ^ 16
+short_by : (p : Phase) (codec : Codec) (channels place : ℕ) (octets : List ℕ) (at : ℕ)
+    → LooksBy p codec channels place octets (sight.Part at) → channels ≤ 6 → length octets < 2 ^ 16
 short_by phase.Fresh codec channels place octets at h most = (let few = h.few in omega (arith, few))
 short_by phase.Open codec channels place octets at h most = block_short codec channels octets at h most
 short_by phase.Ended codec channels place octets at h most = block_short codec channels octets at h most
@@ -38,7 +40,8 @@ pub part_short : (r : StoreReader) (octets : List ℕ) (at : ℕ) → Looks r oc
 part_short r octets at h = short_by r.phase r.codec r.channels (given r) octets at h r.most
 
 -- what was given stays while octets are taken
-pub given_stays : (old new : StoreReader) (more : List ℕ) → held old ++ more ≡ held new → taken_of new ≡ taken_of old + length more → given new ≡ given old
+pub given_stays : (old new : StoreReader) (more : List ℕ) → held old ++ more ≡ held new
+    → taken_of new ≡ taken_of old + length more → given new ≡ given old
 given_stays old new more join taken =
     let size = ap length join in
     let both = length-append (held old) more in
@@ -46,7 +49,8 @@ given_stays old new more join taken =
     omega (arith, size, both, taken, counted)
 
 -- a reader that took more sees the same
-pub looks_same : (old new : StoreReader) (octets : List ℕ) (s : Sight) → new.phase ≡ old.phase → IsSameReader old new → given new ≡ given old
+pub looks_same : (old new : StoreReader) (octets : List ℕ) (s : Sight) → new.phase ≡ old.phase → IsSameReader old new
+    → given new ≡ given old
     → Looks new octets s → Looks old octets s
 looks_same old new octets s p same g h =
     subst (λ n. LooksBy old.phase old.codec old.channels n octets s) g
@@ -54,7 +58,8 @@ looks_same old new octets s p same g h =
     (subst (λ c. LooksBy old.phase c new.channels (given new) octets s) same.codec
     (subst (λ q. LooksBy q new.codec new.channels (given new) octets s) p h)))
 
-pub ends_same : (old new : StoreReader) (octets : List ℕ) (at : ℕ) (f : Found) → new.phase ≡ old.phase → IsSameReader old new → given new ≡ given old
+pub ends_same : (old new : StoreReader) (octets : List ℕ) (at : ℕ) (f : Found) → new.phase ≡ old.phase
+    → IsSameReader old new → given new ≡ given old
     → Ends new octets at f → Ends old octets at f
 ends_same old new octets at f p same g h =
     subst (λ n. EndsBy old.phase old.codec old.channels n octets at f) g
@@ -63,7 +68,8 @@ ends_same old new octets at f p same g h =
     (subst (λ q. EndsBy q new.codec new.channels (given new) octets at f) p h)))
 
 -- octets that were less than what is looked for, if any came since
-pub quiet_on : {P : Type 0} (old now : StoreReader) → (P × (held now ≡ held old)) ⊎ LooksPart old (held old) → LooksPart old (held now)
+pub quiet_on : {P : Type 0} (old now : StoreReader) → (P × (held now ≡ held old)) ⊎ LooksPart old (held old)
+    → LooksPart old (held now)
     → LooksPart old (held old)
 quiet_on old now (inl e) p = subst (LooksPart old) e.1 p
 quiet_on old now (inr q) p = q
@@ -75,8 +81,11 @@ exhausts (Some all) None more h e = absurd h
 exhausts (Some all) (Some ys) more h e = h ∙ ap (λ l. more ++ l) e ∙ append-nil more
 
 -- what reading came to that ended behind the octets held
-ended_by : (p : Phase) (left left' : Option (List ℕ)) (more : List ℕ) (old new : StoreReader) (at : ℕ) (f : Found) → Consumes left left' more → Exhausts left more
-    → Looks old (held new) (sight.Part at) → old.phase ≡ p → EndsBy p old.codec old.channels (given old) (held new) at f → Ends old (held new) at f → SeeksBy left left' more old (Ok f) new
+ended_by : (p : Phase) (left left' : Option (List ℕ)) (more : List ℕ) (old new : StoreReader) (at : ℕ) (f : Found)
+    → Consumes left left' more → Exhausts left more
+    → Looks old (held new) (sight.Part at) → old.phase ≡ p
+    → EndsBy p old.codec old.channels (given old) (held new) at f → Ends old (held new) at f
+    → SeeksBy left left' more old (Ok f) new
 ended_by p left left' more old new at found.End c x l e h k = (c, x, (at, l, k))
 ended_by p left left' more old new at (found.Cut w) c x l e h k = (c, x, (at, l, k))
 ended_by phase.Fresh left left' more old new at (found.Whole n) c x l e h k = absurd h
@@ -92,7 +101,8 @@ ended_by phase.Open left left' more old new at found.OverLimit c x l e h k = abs
 ended_by phase.Ended left left' more old new at found.OverLimit c x l e h k = absurd h
 ended_by phase.Spent left left' more old new at found.OverLimit c x l e h k = absurd h
 
-pub ended_seeks : (left left' : Option (List ℕ)) (more : List ℕ) (old new : StoreReader) (at : ℕ) (f : Found) → Consumes left left' more → Exhausts left more
+pub ended_seeks : (left left' : Option (List ℕ)) (more : List ℕ) (old new : StoreReader) (at : ℕ) (f : Found)
+    → Consumes left left' more → Exhausts left more
     → Looks old (held new) (sight.Part at) → Ends old (held new) at f → SeeksBy left left' more old (Ok f) new
 ended_seeks left left' more old new at f c x l h = ended_by old.phase left left' more old new at f c x l refl h h
 
@@ -123,13 +133,15 @@ end_sought s before mid after old now new more at f p same h read ended keeps jo
     }
 
 -- what was found stands in the octets held
-len_by : (p : Phase) (codec : Codec) (channels place : ℕ) (octets : List ℕ) (n : ℕ) → LooksBy p codec channels place octets (sight.Whole n) → n ≤ length octets
+len_by : (p : Phase) (codec : Codec) (channels place : ℕ) (octets : List ℕ) (n : ℕ)
+    → LooksBy p codec channels place octets (sight.Whole n) → n ≤ length octets
 len_by phase.Fresh codec channels place octets n h = h.within
 len_by phase.Open codec channels place octets n h = h.within
 len_by phase.Ended codec channels place octets n h = h.within
 len_by phase.Spent codec channels place octets n h = h.within
 
-within_by : (left left' : Option (List ℕ)) (more : List ℕ) (old mid : StoreReader) (f : Result Found Failed) → SeeksBy left left' more old f mid → len_of f ≤ length (held mid)
+within_by : (left left' : Option (List ℕ)) (more : List ℕ) (old mid : StoreReader) (f : Result Found Failed)
+    → SeeksBy left left' more old f mid → len_of f ≤ length (held mid)
 within_by left left' more old mid (Ok (found.Whole n)) k = len_by old.phase old.codec old.channels (given old) (held mid) n k.1
 within_by left left' more old mid (Ok (found.Shown w)) k = omega arith
 within_by left left' more old mid (Ok (found.Cut w)) k = omega arith

@@ -55,11 +55,14 @@ behind s before after old mid new f r k t = record {
 }
 
 -- the octets in front of those held were taken
-taken_front : (more : List ℕ) (old new mid : StoreReader) (len : ℕ) → Behind more old new len mid → held old ++ more ≡ take len (held mid) ++ held new
-taken_front more old new mid len b = b.join ∙ sym (take-append-drop len (held mid)) ∙ ap (λ l. take len (held mid) ++ l) (sym b.left)
+taken_front : (more : List ℕ) (old new mid : StoreReader) (len : ℕ) → Behind more old new len mid
+    → held old ++ more ≡ take len (held mid) ++ held new
+taken_front more old new mid len b = b.join ∙ sym (take-append-drop len (held mid))
+    ∙ ap (λ l. take len (held mid) ++ l) (sym b.left)
 
 -- so many octets were given more
-given_more : (more : List ℕ) (old new mid : StoreReader) (len : ℕ) → Behind more old new len mid → len ≤ length (held mid) → given new ≡ given old + len
+given_more : (more : List ℕ) (old new mid : StoreReader) (len : ℕ) → Behind more old new len mid
+    → len ≤ length (held mid) → given new ≡ given old + len
 given_more more old new mid len b under =
     let size = ap length b.join in
     let both = length-append (held old) more in
@@ -73,11 +76,13 @@ all_held : (more : List ℕ) (old new mid : StoreReader) → Behind more old new
 all_held more old new mid b = b.join ∙ sym b.left
 
 module _ (left left' : Option (List ℕ)) (more : List ℕ) (old mid new : StoreReader) where
-  header : (s : Sight) (octets : List ℕ) → old.phase ≡ phase.Fresh → Looks old octets s → HeaderShows old.codec old.channels octets s
+  header : (s : Sight) (octets : List ℕ) → old.phase ≡ phase.Fresh → Looks old octets s
+      → HeaderShows old.codec old.channels octets s
   header s octets e h = subst (λ p. LooksBy p old.codec old.channels (given old) octets s) e h
 
   -- a call for the header, by what was found
-  begins_by : (f : Result Found Failed) → IsFresh old → SeeksBy left left' more old f mid → Behind more old new (len_of f) mid → new.phase ≡ phase_after (step_of f)
+  begins_by : (f : Result Found Failed) → IsFresh old → SeeksBy left left' more old f mid
+      → Behind more old new (len_of f) mid → new.phase ≡ phase_after (step_of f)
       → Begins left left' more old (step_of f) new
   begins_by (Ok (found.Whole len)) fresh k b p =
       let h = header (sight.Whole len) (held mid) fresh.0 k.1 in
@@ -122,7 +127,8 @@ module _ (left left' : Option (List ℕ)) (more : List ℕ) (old mid new : Store
 
 -- what a call for the header did
 pub began : {S : Type 0} (s : source.Ghosts S) (before after : S) (old mid new : StoreReader) (f : Result Found Failed) (r : Result Step Failed)
-    → Sought s before after old f mid → Settles mid f r new → IsFresh old → Began (s.left before) (s.left after) old r new
+    → Sought s before after old f mid → Settles mid f r new → IsFresh old
+    → Began (s.left before) (s.left after) old r new
 began s before after old mid new f r k t fresh =
     let b = behind s before after old mid new f r k t in
     let more = k.seeks.0 in
@@ -141,10 +147,12 @@ unit_long codec u e =
     let size = eqb-true (length u) (1 + octets_in codec (unit_type u)) e in
     let both = length-append (filled head) (filled f.bits) in
     let one : length (filled head) ≡ 1 = length-filled head in
-    let rest : length (filled f.bits) ≡ octets_in codec (unit_type u) = length-filled f.bits ∙ ap octets_for (length-run u 8 (bits_in codec (unit_type u))) in
+    let rest : length (filled f.bits) ≡ octets_in codec (unit_type u) = length-filled f.bits
+    ∙ ap octets_for (length-run u 8 (bits_in codec (unit_type u))) in
     omega (arith, size, both, one, rest)
 
-units_long : (codec : Codec) (us : List (List ℕ)) → AllByRecursion (λ u. is_unit codec u ≡ true) us → length (flat_map (λ u. u) us) ≡ length (block_text (map (frame_in codec) us))
+units_long : (codec : Codec) (us : List (List ℕ)) → AllByRecursion (λ u. is_unit codec u ≡ true) us
+    → length (flat_map (λ u. u) us) ≡ length (block_text (map (frame_in codec) us))
 units_long codec [] h = refl
 units_long codec (u ∷ us) h =
     let a = length-append u (flat_map (λ (u : List ℕ). u) us) in
@@ -153,21 +161,25 @@ units_long codec (u ∷ us) h =
     let rest = units_long codec us h.1 in
     omega (arith, a, b, first, rest)
 
-block_long : (codec : Codec) (octets : List ℕ) (cells : List Cell) → ReadsBlock codec octets cells → length octets ≡ length (block_text (frames_of cells))
+block_long : (codec : Codec) (octets : List ℕ) (cells : List Cell) → ReadsBlock codec octets cells
+    → length octets ≡ length (block_text (frames_of cells))
 block_long codec octets cells h =
     ap length h.are.join ∙ units_long codec h.units h.are.whole ∙ ap (λ fs. length (block_text fs)) (sym h.frames)
 
 module _ (left left' : Option (List ℕ)) (more : List ℕ) (old mid new : StoreReader) (cells cells' : List Cell) where
-  blocks : (s : Sight) (place : ℕ) (octets : List ℕ) → old.phase ≡ phase.Open → place ≡ given old → Looks old octets s → BlockShows old.codec old.channels place octets s
+  blocks : (s : Sight) (place : ℕ) (octets : List ℕ) → old.phase ≡ phase.Open → place ≡ given old → Looks old octets s
+      → BlockShows old.codec old.channels place octets s
   blocks s place octets e p h = subst (λ n. BlockShows old.codec old.channels n octets s) (sym p) (subst (λ p. LooksBy p old.codec old.channels (given old) octets s) e h)
 
-  block_ends : (f : Found) (place at : ℕ) (octets : List ℕ) → old.phase ≡ phase.Open → place ≡ given old → EndsBy old.phase old.codec old.channels (given old) octets at f
+  block_ends : (f : Found) (place at : ℕ) (octets : List ℕ) → old.phase ≡ phase.Open → place ≡ given old
+      → EndsBy old.phase old.codec old.channels (given old) octets at f
       → BlockEnds octets place at f
   block_ends f place at octets e p h = subst (λ n. BlockEnds octets n at f) (sym p) (subst (λ q. EndsBy q old.codec old.channels (given old) octets at f) e h)
 
   module _ (file : List ℕ) (g : HasGiven file old) (size : length cells ≡ channels_of old) where
     -- a call for the next block, by what was found
-    goes_by : (f : Result Found Failed) → SeeksBy left left' more old f mid → Behind more old new (len_of f) mid → IsSameReader old mid → FillsCells mid f cells cells'
+    goes_by : (f : Result Found Failed) → SeeksBy left left' more old f mid → Behind more old new (len_of f) mid
+        → IsSameReader old mid → FillsCells mid f cells cells'
         → new.phase ≡ phase_after (step_of f) → GoesOn file left left' more old (step_of f) cells' new
     goes_by (Ok (found.Whole len)) k b same fills p =
         let h = blocks (sight.Whole len) (length file) (held mid) g.is_open.0 g.given_are k.1 in
@@ -236,7 +248,8 @@ module _ (left left' : Option (List ℕ)) (more : List ℕ) (old mid new : Store
 
 -- what a call for the next block did
 pub went_on : {S : Type 0} (s : source.Ghosts S) (before after : S) (old mid new : StoreReader) (f : Result Found Failed) (r : Result Step Failed) (cells cells' : List Cell)
-    → Sought s before after old f mid → FillsCells mid f cells cells' → Settles mid f r new → length cells ≡ channels_of old
+    → Sought s before after old f mid → FillsCells mid f cells cells' → Settles mid f r new
+    → length cells ≡ channels_of old
     → (file : List ℕ) → HasGiven file old → WentOn file (s.left before) (s.left after) old r cells' new
 went_on s before after old mid new f r cells cells' k fills t size file g =
     let b = behind s before after old mid new f r k t in
@@ -249,8 +262,10 @@ went_on s before after old mid new f r cells cells' k fills t size file g =
     }
 
 -- nothing is read where the octets held show the answer
-pub no_read : {S : Type 0} (s : source.Ghosts S) (before after : S) (old mid : StoreReader) (f : Result Found Failed) → Sought s before after old f mid
-    → (file : List ℕ) → HasGiven file old → (after ≡ before) ⊎ ShowsNothing old.codec old.channels file (file ++ held old)
+pub no_read : {S : Type 0} (s : source.Ghosts S) (before after : S) (old mid : StoreReader) (f : Result Found Failed)
+    → Sought s before after old f mid
+    → (file : List ℕ) → HasGiven file old
+    → (after ≡ before) ⊎ ShowsNothing old.codec old.channels file (file ++ held old)
 no_read s before after old mid f k file g =
     elim k.quiet [
       | inl e ↦ inl e.0
@@ -261,7 +276,8 @@ no_read s before after old mid f k file g =
     ]
 
 -- what was given rises
-counts_by : (old mid new : StoreReader) (more : List ℕ) (f : Result Found Failed) (cells cells' : List Cell) → Behind more old new (len_of f) mid
+counts_by : (old mid new : StoreReader) (more : List ℕ) (f : Result Found Failed) (cells cells' : List Cell)
+    → Behind more old new (len_of f) mid
     → len_of f ≤ length (held mid) → FillsCells mid f cells cells' → Counts old cells (step_of f) cells' new
 counts_by old mid new more (Ok (found.Whole len)) cells cells' b under fills =
     let rises = given_more more old new mid len b under in
@@ -275,7 +291,8 @@ counts_by old mid new more (Ok found.OverLimit) cells cells' b under fills = rec
 counts_by old mid new more (Err e) cells cells' b under fills = record { rises = given_more more old new mid 0 b under; kept = fills }
 
 pub counts : {S : Type 0} (s : source.Ghosts S) (before after : S) (old mid new : StoreReader) (f : Result Found Failed) (r : Result Step Failed) (cells cells' : List Cell)
-    → Sought s before after old f mid → FillsCells mid f cells cells' → Settles mid f r new → len_of f ≤ length (held mid) → Counts old cells r cells' new
+    → Sought s before after old f mid → FillsCells mid f cells cells' → Settles mid f r new
+    → len_of f ≤ length (held mid) → Counts old cells r cells' new
 counts s before after old mid new f r cells cells' k fills t under =
     subst (λ a. Counts old cells a cells' new) (sym t.answer)
     (counts_by old mid new k.seeks.0 f cells cells' (behind s before after old mid new f r k t) under fills)

@@ -28,13 +28,16 @@ taken_front limit a b under =
     ap (λ n. take n (a ++ b)) whole ∙ take-append-add a b (limit - length a)
 
 -- the whole file: what was given, what is held, and what is left
-seam : (front before more now all ys : List ℕ) → before ++ more ≡ now → all ≡ more ++ ys → front ++ (before ++ all) ≡ (front ++ now) ++ ys
+seam : (front before more now all ys : List ℕ) → before ++ more ≡ now → all ≡ more ++ ys
+    → front ++ (before ++ all) ≡ (front ++ now) ++ ys
 seam front before more now all ys join left =
-    ap (λ l. front ++ (before ++ l)) left ∙ ap (λ l. front ++ l) (sym (append_assoc before more ys)) ∙ ap (λ l. front ++ (l ++ ys)) join
+    ap (λ l. front ++ (before ++ l)) left ∙ ap (λ l. front ++ l) (sym (append_assoc before more ys))
+    ∙ ap (λ l. front ++ (l ++ ys)) join
     ∙ sym (append_assoc front now ys)
 
 -- a refusal that is shown, whatever follows, and one at the end
-shown_within : (codec : Codec) (channels limit : ℕ) (a ys : List ℕ) (w : StoreRefusal) → ((behind : List ℕ) → shown_refusal codec channels (a ++ behind) ≡ Some w)
+shown_within : (codec : Codec) (channels limit : ℕ) (a ys : List ℕ) (w : StoreRefusal)
+    → ((behind : List ℕ) → shown_refusal codec channels (a ++ behind) ≡ Some w)
     → length a ≤ limit → refusal_within codec channels limit (a ++ ys) ≡ Some w
 shown_within codec channels limit a ys w h under =
     let file = a ++ ys in
@@ -45,13 +48,15 @@ shown_within codec channels limit a ys w h under =
       | false ↦ all
     ]
 
-cut_within : (codec : Codec) (channels limit : ℕ) (file : List ℕ) (w : StoreRefusal) → store_refusal codec channels file ≡ Some w → length file ≤ limit
+cut_within : (codec : Codec) (channels limit : ℕ) (file : List ℕ) (w : StoreRefusal)
+    → store_refusal codec channels file ≡ Some w → length file ≤ limit
     → refusal_within codec channels limit file ≡ Some w
 cut_within codec channels limit file w h under =
     ap (λ v. cond v (shown_refusal codec channels (take limit file)) (store_refusal codec channels file)) (le-ltb limit (length file) under) ∙ h
 
 -- a file that isn't refused has a header, and so has a longer one
-header_stays : (codec : Codec) (channels : ℕ) (file more : List ℕ) → store_refusal codec channels file ≡ None → has_header_of codec channels (file ++ more) ≡ true
+header_stays : (codec : Codec) (channels : ℕ) (file more : List ℕ) → store_refusal codec channels file ≡ None
+    → has_header_of codec channels (file ++ more) ≡ true
 header_stays codec channels file more is =
     let r = unrefused codec channels file is in
     let l = longer codec file more r.has in
@@ -60,7 +65,8 @@ header_stays codec channels file more is =
     λ i. has i && told i
 
 -- how many octets of the file came
-came : (front more : List ℕ) (old new : StoreReader) → length front ≡ given old → held old ++ more ≡ held new → taken_of new ≡ taken_of old + length more
+came : (front more : List ℕ) (old new : StoreReader) → length front ≡ given old → held old ++ more ≡ held new
+    → taken_of new ≡ taken_of old + length more
     → length (front ++ held new) ≡ taken_of new
 came front more old new g join taken =
     let counted = old.counted in
@@ -72,8 +78,10 @@ came front more old new g join taken =
 none_given : (old : StoreReader) → IsFresh old → 0 ≡ given old
 none_given old fresh = (let none = fresh.2 in omega (arith, none))
 
-header_by : (all : List ℕ) (left' : Option (List ℕ)) (more : List ℕ) (old new : StoreReader) (step : Step) → IsFresh old → Begins (Some all) left' more old (Ok step) new
-    → taken_of new ≡ taken_of old + length more → IsSameReader old new → TellsHeader old.codec old.channels (limit_of old) (held old ++ all) step
+header_by : (all : List ℕ) (left' : Option (List ℕ)) (more : List ℕ) (old new : StoreReader) (step : Step)
+    → IsFresh old → Begins (Some all) left' more old (Ok step) new
+    → taken_of new ≡ taken_of old + length more → IsSameReader old new
+    → TellsHeader old.codec old.channels (limit_of old) (held old ++ all) step
 header_by all None more old new Ready fresh k taken same = absurd k.0
 header_by all (Some ys) more old new Ready fresh k taken same =
     let t = k.1 in
@@ -84,7 +92,8 @@ header_by all (Some ys) more old new Ready fresh k taken same =
     let under : length head ≤ limit_of old = omega (arith, limited, limit, size) in
     let codec = same.codec in let channels = same.channels in
     let is : store_refusal old.codec old.channels head ≡ None = (λ i. store_refusal (sym codec i) (sym channels i) head) ∙ t.given_is.is_file in
-    let whole : held old ++ all ≡ head ++ (held new ++ ys) = ap (λ l. held old ++ l) k.0 ∙ sym (append_assoc (held old) more ys) ∙ ap (λ l. l ++ ys) t.join ∙ append_assoc head (held new) ys in
+    let whole : held old ++ all ≡ head ++ (held new ++ ys) = ap (λ l. held old ++ l) k.0
+    ∙ sym (append_assoc (held old) more ys) ∙ ap (λ l. l ++ ys) t.join ∙ append_assoc head (held new) ys in
     ap (λ f. has_header_of old.codec old.channels (take (limit_of old) f)) whole
     ∙ ap (has_header_of old.codec old.channels) (taken_front (limit_of old) head (held new ++ ys) under)
     ∙ header_stays old.codec old.channels head (take (limit_of old - length head) (held new ++ ys)) is
@@ -129,13 +138,15 @@ header_by all (Some ys) more old new OverLimit fresh k taken same =
     )
 
 -- the answers to the call for the header
-pub header_exact : (left left' : Option (List ℕ)) (old new : StoreReader) (r : Result Step Failed) → IsFresh old → Began left left' old r new → IsSameReader old new → TellsHeaderIn left old r
+pub header_exact : (left left' : Option (List ℕ)) (old new : StoreReader) (r : Result Step Failed) → IsFresh old
+    → Began left left' old r new → IsSameReader old new → TellsHeaderIn left old r
 header_exact None left' old new r fresh b same = tt
 header_exact (Some all) left' old new (Err e) fresh b same = tt
 header_exact (Some all) left' old new (Ok step) fresh b same = header_by all left' b.more old new step fresh b.begins b.taken same
 
 -- the next block in what is taken of the file
-next_is : (codec : Codec) (channels limit : ℕ) (front block behind : List ℕ) (frames : List Frame) → 1 ≤ channels → length (front ++ block) ≤ limit
+next_is : (codec : Codec) (channels limit : ℕ) (front block behind : List ℕ) (frames : List Frame) → 1 ≤ channels
+    → length (front ++ block) ≤ limit
     → blocks_in codec channels (front ++ block) ≡ blocks_in codec channels front ++ frames ∷ []
     → IsNextBlock codec channels limit front ((front ++ block) ++ behind) frames
 next_is codec channels limit front block behind frames one under e =
@@ -149,7 +160,8 @@ next_is codec channels limit front block behind frames one under e =
     }
 
 next_by : (front all : List ℕ) (left' : Option (List ℕ)) (more : List ℕ) (old new : StoreReader) (cells : List Cell) (step : Step) → HasGiven front old
-    → GoesOn front (Some all) left' more old (Ok step) cells new → taken_of new ≡ taken_of old + length more → IsSameReader old new
+    → GoesOn front (Some all) left' more old (Ok step) cells new → taken_of new ≡ taken_of old + length more
+    → IsSameReader old new
     → TellsNext old.codec old.channels (limit_of old) front (front ++ (held old ++ all)) cells step
 next_by front all None more old new cells Ready g k taken same = absurd k.0
 next_by front all (Some ys) more old new cells Ready g k taken same =
@@ -159,7 +171,8 @@ next_by front all (Some ys) more old new cells Ready g k taken same =
     let size = t.given_is.given_are in
     let under : length (front ++ t.block) ≤ limit_of old = omega (arith, limited, limit, size) in
     let whole : front ++ (held old ++ all) ≡ (front ++ t.block) ++ (held new ++ ys) =
-    ap (λ l. front ++ (held old ++ l)) k.0 ∙ ap (λ l. front ++ l) (sym (append_assoc (held old) more ys) ∙ ap (λ l. l ++ ys) t.join ∙ append_assoc t.block (held new) ys)
+    ap (λ l. front ++ (held old ++ l)) k.0
+    ∙ ap (λ l. front ++ l) (sym (append_assoc (held old) more ys) ∙ ap (λ l. l ++ ys) t.join ∙ append_assoc t.block (held new) ys)
     ∙ sym (append_assoc front t.block (held new ++ ys)) in
     subst (λ file. IsNextBlock old.codec old.channels (limit_of old) front file (frames_of cells)) (sym whole)
     (next_is old.codec old.channels (limit_of old) front t.block (held new ++ ys) (frames_of cells) old.some under t.blocks)
@@ -183,7 +196,8 @@ next_by front all (Some ys) more old new cells (Refused w) g k taken same =
             blocks = ap (blocks_in c n) (taken_front limit now ys under) ∙ (f extra).blocks;
           }))
       | inr e ↦ (
-          let whole : front ++ (held old ++ all) ≡ now = ap (λ l. front ++ (held old ++ l)) e.0 ∙ ap (λ l. front ++ l) k.1 in
+          let whole : front ++ (held old ++ all) ≡ now = ap (λ l. front ++ (held old ++ l)) e.0
+          ∙ ap (λ l. front ++ l) k.1 in
           subst (λ file. IsRefusedBlock c n limit front file w) (sym whole) (record {
             refused = cut_within c n limit now w e.1.refused under;
             blocks = ap (blocks_in c n) (take_all limit now under) ∙ e.1.blocks;

@@ -74,7 +74,8 @@ last_found p xs y h e =
 
 module _ (codec : Codec) (channels : ℕ) (file : List ℕ) (one : 1 ≤ channels) (is : store_refusal codec channels file ≡ None) where
   -- the units of a file up to a frame of a reserved type
-  cut_before : (block : List ℕ) (us : List (List ℕ)) (o : ℕ) → AreUnits codec us block → is_reserved codec (unit_type (o ∷ [])) ≡ true
+  cut_before : (block : List ℕ) (us : List (List ℕ)) (o : ℕ) → AreUnits codec us block
+      → is_reserved codec (unit_type (o ∷ [])) ≡ true
       → units_in codec (file ++ (block ++ o ∷ [])) ≡ state ((whole_of codec file ++ us) ++ (o ∷ []) ∷ []) []
   cut_before block us o u e =
       let unit = o ∷ [] in
@@ -86,7 +87,8 @@ module _ (codec : Codec) (channels : ℕ) (file : List ℕ) (one : 1 ≤ channel
       ∙ all codec (ws ++ us) (unit ∷ []) (whole, tt)
 
   -- the frames before it
-  frames_before : (block more : List ℕ) (us : List (List ℕ)) (o : ℕ) → AreUnits codec us block → is_reserved codec (unit_type (o ∷ [])) ≡ true
+  frames_before : (block more : List ℕ) (us : List (List ℕ)) (o : ℕ) → AreUnits codec us block
+      → is_reserved codec (unit_type (o ∷ [])) ≡ true
       → frames_in codec ((file ++ (block ++ o ∷ [])) ++ more) ≡ map (frame_in codec) (whole_of codec file ++ us)
   frames_before block more us o u e =
       let unit = o ∷ [] in
@@ -102,13 +104,15 @@ module _ (codec : Codec) (channels : ℕ) (file : List ℕ) (one : 1 ≤ channel
       let stays = (reserved_stays codec front more (length zs) l.headed.has found).0 in
       let g = units_longer codec front more l.headed.has in
       let us' = (units_in codec (front ++ more)).whole in
-      let whole : us' ≡ zs ++ (unit ∷ g.0) = g.1 ∙ ap (λ (v : Units). v.whole ++ g.0) cut ∙ append_assoc zs (unit ∷ []) g.0 in
+      let whole : us' ≡ zs ++ (unit ∷ g.0) = g.1 ∙ ap (λ (v : Units). v.whole ++ g.0) cut
+      ∙ append_assoc zs (unit ∷ []) g.0 in
       ap (λ o. map (frame_in codec) (take (unwrap_or o (length us')) us')) stays
       ∙ ap (λ v. map (frame_in codec) (take (length zs) v)) whole
       ∙ ap (map (frame_in codec)) (take-append_seam zs (unit ∷ g.0))
 
   -- the blocks of a file by its frames
-  by_frames : (more : List ℕ) → blocks_in codec channels (file ++ more) ≡ blocks_of channels (frames_in codec (file ++ more))
+  by_frames : (more : List ℕ)
+      → blocks_in codec channels (file ++ more) ≡ blocks_of channels (frames_in codec (file ++ more))
   by_frames more =
       let r = unrefused codec channels file is in
       let l = longer codec file more r.has in
@@ -117,7 +121,8 @@ module _ (codec : Codec) (channels : ℕ) (file : List ℕ) (one : 1 ≤ channel
       λ i. cond (has i && told i) (blocks_of channels (frames_in codec (file ++ more))) []
 
   -- there is no block more
-  no_more : (block more : List ℕ) (us : List (List ℕ)) (o : ℕ) → AreUnits codec us block → length us < channels → is_reserved codec (unit_type (o ∷ [])) ≡ true
+  no_more : (block more : List ℕ) (us : List (List ℕ)) (o : ℕ) → AreUnits codec us block → length us < channels
+      → is_reserved codec (unit_type (o ∷ [])) ≡ true
       → blocks_in codec channels (file ++ (block ++ o ∷ more)) ≡ blocks_in codec channels file
   no_more block more us o u fewer e =
       let unit = o ∷ [] in
@@ -128,7 +133,8 @@ module _ (codec : Codec) (channels : ℕ) (file : List ℕ) (one : 1 ≤ channel
       let joined : (file ++ (block ++ unit)) ++ more ≡ file ++ (block ++ o ∷ more) =
       append_assoc file (block ++ unit) more ∙ ap (λ t. file ++ t) (append_assoc block unit more) in
       let whole : frames_in codec (file ++ (block ++ [])) ≡ map (frame_in codec) zs =
-      ap (λ (v : Units). frames_from codec v.whole) (units_of codec channels file block [] us is u part) ∙ all_known codec zs known in
+      ap (λ (v : Units). frames_from codec v.whole) (units_of codec channels file block [] us is u part)
+      ∙ all_known codec zs known in
       by_frames (block ++ o ∷ more)
       ∙ ap (blocks_of channels) (ap (frames_in codec) (sym joined) ∙ frames_before block more us o u e ∙ sym whole)
       ∙ sym (by_frames (block ++ [])) ∙ same_blocks codec channels file block [] us one is u fewer part
@@ -146,12 +152,15 @@ module _ (codec : Codec) (channels : ℕ) (file : List ℕ) (one : 1 ≤ channel
       let named_is : why.Reserved (length file + length block) (unit_type (r.head ∷ [])) ≡ w =
       (let type = sym r.type in λ i. why.Reserved (length file + size i) (type i)) ∙ sym h.named in
       record {
-        refused = ap (λ o. shown_refusal codec channels (file ++ o)) (sym join) ∙ named codec channels file block r.more us r.head is h.hold.are r.reserved ∙ ap (λ v. Some v) named_is;
-        blocks = ap (λ o. blocks_in codec channels (file ++ o)) (sym join) ∙ no_more block r.more us r.head h.hold.are fewer r.reserved;
+        refused = ap (λ o. shown_refusal codec channels (file ++ o)) (sym join)
+            ∙ named codec channels file block r.more us r.head is h.hold.are r.reserved ∙ ap (λ v. Some v) named_is;
+        blocks = ap (λ o. blocks_in codec channels (file ++ o)) (sym join)
+            ∙ no_more block r.more us r.head h.hold.are fewer r.reserved;
       }
 
 -- the same octets with more behind them
-pub wrong_more : (codec : Codec) (channels place : ℕ) (octets more : List ℕ) (w : StoreRefusal) → BlockWrong codec channels place octets w
+pub wrong_more : (codec : Codec) (channels place : ℕ) (octets more : List ℕ) (w : StoreRefusal)
+    → BlockWrong codec channels place octets w
     → BlockWrong codec channels place (octets ++ more) w
 wrong_more codec channels place octets more w h =
     let at = h.at in
@@ -181,11 +190,13 @@ wrong_more codec channels place octets more w h =
     }
 
 -- octets with a header of the channels don't lack a magic number
-not_by : (o : Option ℕ) (place type : ℕ → ℕ) → first (None ∷ None ∷ option_map (λ k. why.Reserved (place k) (type k)) o ∷ []) ≡ Some why.Magic → ⊥
+not_by : (o : Option ℕ) (place type : ℕ → ℕ)
+    → first (None ∷ None ∷ option_map (λ k. why.Reserved (place k) (type k)) o ∷ []) ≡ Some why.Magic → ⊥
 not_by None place type e = cc
 not_by (Some k) place type e = cc
 
-not_magic : (codec : Codec) (channels : ℕ) (file : List ℕ) → has_header codec file ≡ true → channels_told codec file ≡ channels → shown_refusal codec channels file ≡ Some why.Magic → ⊥
+not_magic : (codec : Codec) (channels : ℕ) (file : List ℕ) → has_header codec file ≡ true
+    → channels_told codec file ≡ channels → shown_refusal codec channels file ≡ Some why.Magic → ⊥
 not_magic codec channels file has told e =
     let magic : has_magic codec file ≡ true = (and_true (has_magic codec file) (not (ltb (length file) (header_len codec file))) has).0 in
     let same : nat_eq (channels_told codec file) channels ≡ true = eq-eqb (channels_told codec file) channels told in
@@ -201,7 +212,8 @@ is_magic true w e = ap (λ o. unwrap_or o w) e
 is_magic false w e = absurd cc
 
 -- octets with no whole header show at most that they lack a magic number
-lacks_magic : (codec : Codec) (channels : ℕ) (file : List ℕ) (w : StoreRefusal) → has_header codec file ≡ false → shown_refusal codec channels file ≡ Some w → why.Magic ≡ w
+lacks_magic : (codec : Codec) (channels : ℕ) (file : List ℕ) (w : StoreRefusal) → has_header codec file ≡ false
+    → shown_refusal codec channels file ≡ Some w → why.Magic ≡ w
 lacks_magic codec channels file w f e =
     let none : units_in codec file ≡ state [] [] = ap (λ v. units codec (cond v (drop (header_len codec file) file) [])) f in
     let place = λ (k : ℕ). why.Reserved (unit_place codec file k) (slice_index (map unit_type (units_in codec file).whole) k) in
@@ -212,7 +224,8 @@ lacks_magic codec channels file w f e =
     is_magic t w ((λ i. first (when t why.Magic ∷ sym c i ∷ sym d i ∷ [])) ∙ e)
 
 -- a header that is wrong stays so
-no_header_more : (codec : Codec) (channels : ℕ) (file more : List ℕ) (w : StoreRefusal) → HeaderWrong codec channels file w
+no_header_more : (codec : Codec) (channels : ℕ) (file more : List ℕ) (w : StoreRefusal)
+    → HeaderWrong codec channels file w
     → has_header codec (file ++ more) ≡ true → channels_told codec (file ++ more) ≡ channels → ⊥
 no_header_more codec channels file more w h has told =
     let all' = file ++ more in
@@ -228,7 +241,8 @@ no_header_more codec channels file more w h has told =
           not_magic codec channels all' has told (shown_more codec channels file more w h.shown ∙ ap (λ v. Some v) (sym m))
     ] refl
 
-pub wrong_header_more : (codec : Codec) (channels : ℕ) (file more : List ℕ) (w : StoreRefusal) → HeaderWrong codec channels file w
+pub wrong_header_more : (codec : Codec) (channels : ℕ) (file more : List ℕ) (w : StoreRefusal)
+    → HeaderWrong codec channels file w
     → RefusesHeader codec channels (shown_refusal codec channels) w (file ++ more)
 wrong_header_more codec channels file more w h =
     let all' = file ++ more in
