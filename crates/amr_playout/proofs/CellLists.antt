@@ -46,11 +46,13 @@ pub all-replicate : (P : Cell → Type 0) (n : ℕ) (x : Cell) → P x → AllBy
 all-replicate P zero x p = tt
 all-replicate P (suc n) x p = (p, all-replicate P n x p)
 
-pub all-append : (P : Cell → Type 0) (xs ys : List Cell) → AllByRecursion P xs → AllByRecursion P ys → AllByRecursion P (xs ++ ys)
+pub all-append : (P : Cell → Type 0) (xs ys : List Cell) → AllByRecursion P xs → AllByRecursion P ys
+    → AllByRecursion P (xs ++ ys)
 all-append P [] ys a b = b
 all-append P (x ∷ xs) ys a b = (a.0, all-append P xs ys a.1 b)
 
-pub all-more : (P : Cell → Type 0) (xs : List Cell) (x : Cell) → AllByRecursion P xs → P x → AllByRecursion P (xs ++ x ∷ [])
+pub all-more : (P : Cell → Type 0) (xs : List Cell) (x : Cell) → AllByRecursion P xs → P x
+    → AllByRecursion P (xs ++ x ∷ [])
 all-more P [] x a p = (p, tt)
 all-more P (y ∷ xs) x a p = (a.0, all-more P xs x a.1 p)
 
@@ -59,7 +61,8 @@ all-drop P zero xs a = a
 all-drop P (suc n) [] a = tt
 all-drop P (suc n) (x ∷ xs) a = all-drop P n xs a.1
 
-pub all-get : (P : Cell → Type 0) (xs : List Cell) (i : ℕ) (d : Cell) → i < length xs → AllByRecursion P xs → P (get_or xs i d)
+pub all-get : (P : Cell → Type 0) (xs : List Cell) (i : ℕ) (d : Cell) → i < length xs → AllByRecursion P xs
+    → P (get_or xs i d)
 all-get P [] i d h a = absurd (omega arith)
 all-get P (x ∷ xs) zero d h a = a.0
 all-get P (x ∷ xs) (suc i) d h a = all-get P xs i d (omega arith) a.1

@@ -45,7 +45,8 @@ apart p q c d other =
     let same : p ≡ q = omega (arith, ints) in
     elim (cases_eq c d) [
       | inl e ↦ absurd (other same e)
-      | inr ne ↦ (let f : nat_eq c d ≡ false = grind (arith, nat_tests) in let t : same_place p q ≡ true = ap (same_place p) (sym same) ∙ same_here p in rw (t, f) refl)
+      | inr ne ↦ (let f : nat_eq c d ≡ false = grind (arith, nat_tests) in let t : same_place p q ≡ true = ap
+          (same_place p) (sym same) ∙ same_here p in rw (t, f) refl)
     ]))
 
 abbrev pub copy : ℤ → ℕ → Frame → Copy
@@ -60,36 +61,48 @@ frame_in c = c.frame
 
 -- the best of copies, and of one more
 grown : (codec : Codec) (cs : List Copy) (d : Copy) (p : ℤ) (c : ℕ) →
-    best_at codec (cs ++ d ∷ []) p c ≡ fold (λ kept f. better codec kept (Some f)) (best_at codec cs p c) (map frame_in (filter (is_at p c) (d ∷ [])))
+    best_at codec (cs ++ d ∷ []) p c ≡ fold (λ kept f. better codec kept (Some f)) (best_at codec cs p c)
+    (map frame_in (filter (is_at p c) (d ∷ [])))
 grown codec cs d p c =
     ap (λ xs. best codec (map frame_in xs)) (filter-append (is_at p c) cs (d ∷ []))
     ∙ ap (best codec) (map-both frame_in (filter (is_at p c) cs) (filter (is_at p c) (d ∷ [])))
-    ∙ fold-append (λ kept f. better codec kept (Some f)) None (map frame_in (filter (is_at p c) cs)) (map frame_in (filter (is_at p c) (d ∷ [])))
+    ∙ fold-append (λ kept f. better codec kept (Some f)) None (map frame_in (filter (is_at p c) cs))
+    (map frame_in (filter (is_at p c) (d ∷ [])))
 
-pub best_here : (codec : Codec) (cs : List Copy) (q : ℤ) (c : ℕ) (x : Frame) → best_at codec (cs ++ copy q c x ∷ []) q c ≡ better codec (best_at codec cs q c) (Some x)
+pub best_here : (codec : Codec) (cs : List Copy) (q : ℤ) (c : ℕ) (x : Frame)
+    → best_at codec (cs ++ copy q c x ∷ []) q c ≡ better codec (best_at codec cs q c) (Some x)
 best_here codec cs q c x =
     let e : is_at q c (copy q c x) ≡ true = both_here q c in
     grown codec cs (copy q c x) q c
-    ∙ ap (λ b. fold (λ kept f. better codec kept (Some f)) (best_at codec cs q c) (map frame_in (cond b (copy q c x ∷ []) []))) e
+    ∙ ap (λ b. fold (λ kept f. better codec kept (Some f)) (best_at codec cs q c)
+    (map frame_in (cond b (copy q c x ∷ []) []))) e
 
-pub best_else : (codec : Codec) (cs : List Copy) (q : ℤ) (c : ℕ) (x : Frame) (p : ℤ) (d : ℕ) → (q ≡ p → c ≡ d → ⊥) → best_at codec (cs ++ copy q c x ∷ []) p d ≡ best_at codec cs p d
+pub best_else : (codec : Codec) (cs : List Copy) (q : ℤ) (c : ℕ) (x : Frame) (p : ℤ) (d : ℕ) → (q ≡ p → c ≡ d → ⊥)
+    → best_at codec (cs ++ copy q c x ∷ []) p d ≡ best_at codec cs p d
 best_else codec cs q c x p d other =
     let e : is_at p d (copy q c x) ≡ false = apart q p c d other in
     grown codec cs (copy q c x) p d
-    ∙ ap (λ b. fold (λ kept f. better codec kept (Some f)) (best_at codec cs p d) (map frame_in (cond b (copy q c x ∷ []) []))) e
+    ∙ ap (λ b. fold (λ kept f. better codec kept (Some f)) (best_at codec cs p d)
+    (map frame_in (cond b (copy q c x ∷ []) []))) e
 
-pub length-window : (rules : Rules) (cs : List Copy) (base : ℤ) → length (window_of rules cs base) ≡ rules.window * rules.channels
+pub length-window : (rules : Rules) (cs : List Copy) (base : ℤ)
+    → length (window_of rules cs base) ≡ rules.window * rules.channels
 length-window rules cs base = length-map-range_with_len (cell_at rules cs base) 0 (rules.window * rules.channels)
 
-pub in_window : (rules : Rules) (r c : ℕ) → c < rules.channels → r < rules.window → r * rules.channels + c < rules.window * rules.channels
-in_window rules r c lt row = omega (arith, mul-add-lt r rules.channels c rules.window row lt, mul_comm rules.channels rules.window)
+pub in_window : (rules : Rules) (r c : ℕ) → c < rules.channels → r < rules.window
+    → r * rules.channels + c < rules.window * rules.channels
+in_window rules r c lt row =
+    omega (arith, mul-add-lt r rules.channels c rules.window row lt, mul_comm rules.channels rules.window)
 
-pub window_item : (rules : Rules) (cs : List Copy) (base : ℤ) (k : ℕ) → k < rules.window * rules.channels → item (window_of rules cs base) k ≡ cell_at rules cs base k
-window_item rules cs base k h = get_or-map-range_with_len (cell_at rules cs base) 0 (rules.window * rules.channels) k k None h (omega arith)
+pub window_item : (rules : Rules) (cs : List Copy) (base : ℤ) (k : ℕ) → k < rules.window * rules.channels
+    → item (window_of rules cs base) k ≡ cell_at rules cs base k
+window_item rules cs base k h =
+    get_or-map-range_with_len (cell_at rules cs base) 0 (rules.window * rules.channels) k k None h (omega arith)
 
 -- the item of a place and a channel
-pub item_at : (rules : Rules) (cs : List Copy) (base q : ℤ) (r c : ℕ) → c < rules.channels → r < rules.window → q ≡ base +ℤ pos r →
-    item (window_of rules cs base) (r * rules.channels + c) ≡ best_at rules.codec cs q c
+pub item_at : (rules : Rules) (cs : List Copy) (base q : ℤ) (r c : ℕ) → c < rules.channels → r < rules.window
+    → q ≡ base +ℤ pos r
+    → item (window_of rules cs base) (r * rules.channels + c) ≡ best_at rules.codec cs q c
 item_at rules cs base q r c lt row is =
     let n : ℕ = rules.channels in
     window_item rules cs base (r * n + c) (in_window rules r c lt row)
@@ -98,8 +111,9 @@ item_at rules cs base q r c lt row is =
     ∙ ap (λ p. best_at rules.codec cs p c) (sym is)
 
 -- one copy merged into the window
-pub put_one : (rules : Rules) (cs : List Copy) (base q : ℤ) (r c : ℕ) (x : Frame) → c < rules.channels → r < rules.window → q ≡ base +ℤ pos r →
-    (let s = window_of rules cs base in let i = r * rules.channels + c in
+pub put_one : (rules : Rules) (cs : List Copy) (base q : ℤ) (r c : ℕ) (x : Frame) → c < rules.channels
+    → r < rules.window → q ≡ base +ℤ pos r
+    → (let s = window_of rules cs base in let i = r * rules.channels + c in
     set s i (better rules.codec (item s i) (Some x)) ≡ window_of rules (cs ++ copy q c x ∷ []) base)
 put_one rules cs base q r c x lt row is =
     let n : ℕ = rules.channels in
@@ -142,17 +156,22 @@ none_past h p c (x ∷ cs) all lt =
     let e : same_place x.place p ≡ false = below x.place p (omega (arith, ints)) in
     rw e (none_past h p c cs all.1 lt)
 
-pub cell_past : (rules : Rules) (h base : ℤ) (cs : List Copy) (k : ℕ) → Within h cs → h <ℤ (base +ℤ pos (k / rules.channels)) → cell_at rules cs base k ≡ None
-cell_past rules h base cs k all lt = ap (λ xs. best rules.codec (map frame_in xs)) (none_past h (base +ℤ pos (k / rules.channels)) (k % rules.channels) cs all lt)
+pub cell_past : (rules : Rules) (h base : ℤ) (cs : List Copy) (k : ℕ) → Within h cs
+    → h <ℤ (base +ℤ pos (k / rules.channels)) → cell_at rules cs base k ≡ None
+cell_past rules h base cs k all lt =
+    ap (λ xs. best rules.codec (map frame_in xs))
+    (none_past h (base +ℤ pos (k / rules.channels)) (k % rules.channels) cs all lt)
 
 -- each item of the window, and past it none
-pub each_item : (rules : Rules) (h : ℤ) (cs : List Copy) (k : ℕ) → 0 < rules.channels → Within h cs → item (window_of rules cs (base_of rules h)) k ≡ cell_at rules cs (base_of rules h) k
+pub each_item : (rules : Rules) (h : ℤ) (cs : List Copy) (k : ℕ) → 0 < rules.channels → Within h cs
+    → item (window_of rules cs (base_of rules h)) k ≡ cell_at rules cs (base_of rules h) k
 each_item rules h cs k some all =
     elim (cases_lt k (rules.window * rules.channels)) [
       | inl lt ↦ window_item rules cs (base_of rules h) k lt
       | inr ge ↦
           let past : rules.window ≤ k / rules.channels = le-div rules.window k rules.channels some ge in
-          get_or_past (window_of rules cs (base_of rules h)) k None (omega (arith, length-window rules cs (base_of rules h)))
+          get_or_past (window_of rules cs (base_of rules h)) k None
+          (omega (arith, length-window rules cs (base_of rules h)))
           ∙ sym (cell_past rules h (base_of rules h) cs k all (omega (arith, ints)))
     ]
 
@@ -172,11 +191,14 @@ row_block rules h cs i some all =
 
 -- the window a number of places on
 pub slid_window : (rules : Rules) (h : ℤ) (cs : List Copy) (count : ℕ) → 0 < rules.channels → Within h cs →
-    map (item (window_of rules cs (base_of rules h))) (range_with_len (count * rules.channels) (rules.window * rules.channels)) ≡ window_of rules cs (base_of rules (h +ℤ pos count))
+    map (item (window_of rules cs (base_of rules h)))
+    (range_with_len (count * rules.channels) (rules.window * rules.channels)) ≡ window_of rules cs
+    (base_of rules (h +ℤ pos count))
 slid_window rules h cs count some all =
     let n : ℕ = rules.channels in
     let b : ℤ = base_of rules h in
-    shifted_maps (item (window_of rules cs b)) (cell_at rules cs (base_of rules (h +ℤ pos count))) (count * n) 0 (rules.window * n)
+    shifted_maps (item (window_of rules cs b)) (cell_at rules cs (base_of rules (h +ℤ pos count))) (count * n) 0
+    (rules.window * n)
     (λ k lt.
     each_item rules h cs (count * n + k) some all
     ∙ ap (λ j. best_at rules.codec cs (b +ℤ pos j) ((count * n + k) % n)) (over count n k some)

@@ -19,13 +19,22 @@ abbrev pub has : List Copy → ℤ → ℕ → Bool
 has cs p c = is_some (find (is_at p c) cs)
 
 -- two copies are of the same place and channel, or not
-same_or_not : (p q : ℤ) (c d : ℕ) → ((p ≡ q) × (c ≡ d)) ⊎ (((same_place p q && nat_eq c d) ≡ false) × ((same_place q p && nat_eq d c) ≡ false))
+same_or_not : (p q : ℤ) (c d : ℕ)
+    → ((p ≡ q) × (c ≡ d)) ⊎ (((same_place p q && nat_eq c d) ≡ false) × ((same_place q p && nat_eq d c) ≡ false))
 same_or_not p q c d =
     by_lt_z p q
-    (λ l. inr (apart p q c d (λ e f. absurd (omega (arith, ints))), apart q p d c (λ e f. absurd (omega (arith, ints)))))
+    (λ l. inr (
+      apart p q c d (λ e f. absurd (omega (arith, ints))),
+      apart q p d c
+          (λ e f. absurd (omega (arith, ints))),
+    ))
     (λ l.
     by_lt_z q p
-    (λ m. inr (apart p q c d (λ e f. absurd (omega (arith, ints))), apart q p d c (λ e f. absurd (omega (arith, ints)))))
+    (λ m. inr (
+      apart p q c d (λ e f. absurd (omega (arith, ints))),
+      apart q p d c
+          (λ e f. absurd (omega (arith, ints))),
+    ))
     (λ m.
     elim (cases_eq c d) [
       | inl e ↦ inl (omega (arith, ints), e)
@@ -60,23 +69,34 @@ counted a true n m e = e
 counted a false n m e = omega arith
 
 -- one copy more is different from the others, or not
-pub different_more : (cs : List Copy) (d : Copy) → different (cs ++ d ∷ []) ≡ different cs + cond (has cs d.place d.channel) 0 1
+pub different_more : (cs : List Copy) (d : Copy)
+    → different (cs ++ d ∷ []) ≡ different cs + cond (has cs d.place d.channel) 0 1
 different_more [] d = refl
 different_more (x ∷ cs) d =
     elim (same_or_not d.place x.place d.channel x.channel) [
       | inl same ↦ (
-          let here : is_at x.place x.channel d ≡ true = ap (λ p. same_place p x.place && nat_eq d.channel x.channel) same.0 ∙ ap (λ c. same_place x.place x.place && nat_eq c x.channel) same.1 ∙ both_here x.place x.channel in
-          let back : is_at d.place d.channel x ≡ true = ap (λ p. same_place x.place p && nat_eq x.channel d.channel) same.0 ∙ ap (λ c. same_place x.place x.place && nat_eq x.channel c) same.1 ∙ both_here x.place x.channel in
-          let alike : has cs d.place d.channel ≡ has cs x.place x.channel = ap (λ p. has cs p d.channel) same.0 ∙ ap (has cs x.place) same.1 in
-          let rest : different (cs ++ d ∷ []) ≡ different cs + cond (has cs d.place d.channel) 0 1 = different_more cs d in
-          ap (λ b. cond b (different (cs ++ d ∷ [])) (suc (different (cs ++ d ∷ [])))) (has_here cs d x.place x.channel here)
+          let here : is_at x.place x.channel d ≡ true =
+          ap (λ p. same_place p x.place && nat_eq d.channel x.channel) same.0
+          ∙ ap (λ c. same_place x.place x.place && nat_eq c x.channel) same.1 ∙ both_here x.place x.channel in
+          let back : is_at d.place d.channel x ≡ true =
+          ap (λ p. same_place x.place p && nat_eq x.channel d.channel) same.0
+          ∙ ap (λ c. same_place x.place x.place && nat_eq x.channel c) same.1 ∙ both_here x.place x.channel in
+          let alike : has cs d.place d.channel ≡ has cs x.place x.channel =
+          ap (λ p. has cs p d.channel) same.0 ∙ ap (has cs x.place) same.1 in
+          let rest : different (cs ++ d ∷ []) ≡ different cs + cond (has cs d.place d.channel) 0 1 = different_more cs
+          d in
+          ap (λ b. cond b (different (cs ++ d ∷ [])) (suc (different (cs ++ d ∷ []))))
+          (has_here cs d x.place x.channel here)
           ∙ rest
           ∙ ap (λ b. different cs + cond b 0 1) alike
-          ∙ sym (ap (λ b. different (x ∷ cs) + cond b 0 1) (found_first x cs d.place d.channel back) ∙ flip (has cs x.place x.channel) (different cs))
+          ∙ sym (ap (λ b. different (x ∷ cs) + cond b 0 1) (found_first x cs d.place d.channel back)
+          ∙ flip (has cs x.place x.channel) (different cs))
           )
       | inr other ↦
-          ap (λ b. cond b (different (cs ++ d ∷ [])) (suc (different (cs ++ d ∷ [])))) (has_else cs d x.place x.channel other.0)
-          ∙ counted (has cs d.place d.channel) (has cs x.place x.channel) (different (cs ++ d ∷ [])) (different cs) (different_more cs d)
+          ap (λ b. cond b (different (cs ++ d ∷ [])) (suc (different (cs ++ d ∷ []))))
+          (has_else cs d x.place x.channel other.0)
+          ∙ counted (has cs d.place d.channel) (has cs x.place x.channel) (different (cs ++ d ∷ [])) (different cs)
+          (different_more cs d)
           ∙ ap (λ b. different (x ∷ cs) + cond b 0 1) (sym (found_later x cs d.place d.channel other.1))
     ]
   where
@@ -88,18 +108,24 @@ pub different-le : (cs : List Copy) → different cs ≤ length cs
 different-le [] = omega arith
 different-le (x ∷ cs) =
     let rest = different-le cs in
-    elim (has cs x.place x.channel) as (λ b. cond b (different cs) (suc (different cs)) ≤ suc (length cs)) [ true ↦ omega arith | false ↦ omega arith ]
+    elim (has cs x.place x.channel) as (λ b. cond b (different cs) (suc (different cs)) ≤ suc (length cs))
+    [ true ↦ omega arith | false ↦ omega arith ]
 
 -- ---- there is a best one where there is one
 
 some_better : (codec : Codec) (a : Option Frame) (f : Frame) → is_some (better codec a (Some f)) ≡ true
-some_better codec None f = elim (is_lt (quality codec None (Some f))) as (λ b. is_lt (quality codec None (Some f)) ≡ b → is_some (better codec None (Some f)) ≡ true) [
-  | true ↦ λ e. ap (λ b. is_some (cond b (Some f) None)) e
-  | false ↦ λ e. ap is_some (better_none codec (Some f))
-] refl
-some_better codec (Some g) f = elim (is_lt (quality codec (Some g) (Some f))) as (λ b. is_some (cond b (Some f) (Some g)) ≡ true) [ true ↦ refl | false ↦ refl ]
+some_better codec None f =
+    elim (is_lt (quality codec None (Some f))) as (λ b. is_lt (quality codec None (Some f)) ≡ b
+    → is_some (better codec None (Some f)) ≡ true) [
+      | true ↦ λ e. ap (λ b. is_some (cond b (Some f) None)) e
+      | false ↦ λ e. ap is_some (better_none codec (Some f))
+    ] refl
+some_better codec (Some g) f =
+    elim (is_lt (quality codec (Some g) (Some f))) as (λ b. is_some (cond b (Some f) (Some g)) ≡ true)
+    [ true ↦ refl | false ↦ refl ]
 
-stays_some : (codec : Codec) (fs : List Frame) (a : Option Frame) → is_some a ≡ true → is_some (fold (λ kept f. better codec kept (Some f)) a fs) ≡ true
+stays_some : (codec : Codec) (fs : List Frame) (a : Option Frame) → is_some a ≡ true
+    → is_some (fold (λ kept f. better codec kept (Some f)) a fs) ≡ true
 stays_some codec [] a e = e
 stays_some codec (f ∷ fs) a e = stays_some codec fs (better codec a (Some f)) (some_better codec a f)
 
@@ -108,11 +134,14 @@ has_best codec [] p c = refl
 has_best codec (x ∷ cs) p c =
     elim (is_at p c x) as (λ b. is_at p c x ≡ b → is_some (best_at codec (x ∷ cs) p c) ≡ has (x ∷ cs) p c) [
       | true ↦ λ t.
-          ap (λ b. is_some (best codec (map (λ (y : Copy). y.frame) (cond b (x ∷ filter (is_at p c) cs) (filter (is_at p c) cs))))) t
-          ∙ stays_some codec (map (λ (y : Copy). y.frame) (filter (is_at p c) cs)) (better codec None (Some x.frame)) (some_better codec None x.frame)
+          ap (λ b. is_some (best codec
+          (map (λ (y : Copy). y.frame) (cond b (x ∷ filter (is_at p c) cs) (filter (is_at p c) cs))))) t
+          ∙ stays_some codec (map (λ (y : Copy). y.frame) (filter (is_at p c) cs)) (better codec None (Some x.frame))
+          (some_better codec None x.frame)
           ∙ sym (found_first x cs p c t)
       | false ↦ λ f.
-          ap (λ b. is_some (best codec (map (λ (y : Copy). y.frame) (cond b (x ∷ filter (is_at p c) cs) (filter (is_at p c) cs))))) f
+          ap (λ b. is_some (best codec
+          (map (λ (y : Copy). y.frame) (cond b (x ∷ filter (is_at p c) cs) (filter (is_at p c) cs))))) f
           ∙ has_best codec cs p c ∙ sym (found_later x cs p c f)
     ] refl
 

@@ -22,22 +22,27 @@ frame_is codec x p = elim x.present as (λ b. IsCellBy codec b (frame_of x) → 
   | false ↦ λ q. subst (IsFrame codec) (sym q) (no_data_is codec)
 ] p
 
-pub frames_are : (codec : Codec) (n : ℕ) (xs : List Cell) → AllByRecursion (IsCell codec) xs → AllByRecursion (IsFrame codec) (frames_of (take n xs))
+pub frames_are : (codec : Codec) (n : ℕ) (xs : List Cell) → AllByRecursion (IsCell codec) xs
+    → AllByRecursion (IsFrame codec) (frames_of (take n xs))
 frames_are codec zero xs a = tt
 frames_are codec (suc n) [] a = tt
 frames_are codec (suc n) (x ∷ xs) a = (frame_is codec x a.0, frames_are codec n xs a.1)
 
 -- and it is what is stored
 stored_is : (codec : Codec) (x : Cell) → IsCell codec x → frame_of x ≡ stored (held x)
-stored_is codec x p = elim x.present as (λ b. IsCellBy codec b (frame_of x) → frame_of x ≡ stored (cond b (Some (frame_of x)) None)) [
-  | true ↦ λ q. refl
-  | false ↦ λ q. q
-] p
+stored_is codec x p =
+    elim x.present as (λ b. IsCellBy codec b (frame_of x) → frame_of x ≡ stored (cond b (Some (frame_of x)) None)) [
+      | true ↦ λ q. refl
+      | false ↦ λ q. q
+    ] p
 
-pub frames_stored : (codec : Codec) (n : ℕ) (xs : List Cell) → AllByRecursion (IsCell codec) xs → frames_of (take n xs) ≡ map stored (take n (held_of xs))
+pub frames_stored : (codec : Codec) (n : ℕ) (xs : List Cell) → AllByRecursion (IsCell codec) xs
+    → frames_of (take n xs) ≡ map stored (take n (held_of xs))
 frames_stored codec zero xs a = refl
 frames_stored codec (suc n) [] a = refl
-frames_stored codec (suc n) (x ∷ xs) a = ap (λ f. f ∷ frames_of (take n xs)) (stored_is codec x a.0) ∙ ap (λ fs. stored (held x) ∷ fs) (frames_stored codec n xs a.1)
+frames_stored codec (suc n) (x ∷ xs) a =
+    ap (λ f. f ∷ frames_of (take n xs)) (stored_is codec x a.0)
+    ∙ ap (λ fs. stored (held x) ∷ fs) (frames_stored codec n xs a.1)
 
 pub frames-take : (n : ℕ) (xs : List Cell) → frames_of (take n xs) ≡ take n (frames_of xs)
 frames-take zero xs = refl
@@ -50,13 +55,15 @@ length-front (suc n) [] h = absurd (omega arith)
 length-front (suc n) (x ∷ xs) h = ap suc (length-front n xs (omega arith))
 
 -- a cell in place of one with its frame
-pub frames-put : (xs : List Cell) (i : ℕ) (x y : Cell) → Some x ≡ slice_get xs i → frame_of y ≡ frame_of x → frames_of (set xs i y) ≡ frames_of xs
+pub frames-put : (xs : List Cell) (i : ℕ) (x y : Cell) → Some x ≡ slice_get xs i → frame_of y ≡ frame_of x
+    → frames_of (set xs i y) ≡ frames_of xs
 frames-put [] i x y e f = refl
 frames-put (z ∷ xs) zero x y e f = (let g : x ≡ z = cc in ap (λ v. v ∷ frames_of xs) (f ∙ ap frame_of g))
 frames-put (z ∷ xs) (suc i) x y e f = ap (λ fs. frame_of z ∷ fs) (frames-put xs i x y e f)
 
 -- the front of two lists behind one another, where it reaches into the second
-pub take-pieces : {X : Type 0} (n : ℕ) (xs ys : List X) → length xs ≤ n → xs ++ take (n - length xs) ys ≡ take n (xs ++ ys)
+pub take-pieces : {X : Type 0} (n : ℕ) (xs ys : List X) → length xs ≤ n
+    → xs ++ take (n - length xs) ys ≡ take n (xs ++ ys)
 take-pieces n [] ys h = (let all : n - 0 ≡ n = omega arith in ap (λ m. take m ys) all)
 take-pieces zero (x ∷ xs) ys h = absurd (omega arith)
 take-pieces (suc n) (x ∷ xs) ys h =

@@ -24,13 +24,16 @@ use Rattle.spec_session.specs.Copies.{Copy, copies_in, copies_of, copy_at, in_ti
 use Rattle.spec_session.specs.Release.{greatest, least}
 use Rattle.spec_session.specs.Session.{Accepted, Rules, block_place, blocks_in, greatest_last, last_place}
 
-pub absent_window : (rules : Rules) (base : ℤ) → replicate (rules.window * rules.channels) None ≡ window_of rules [] base
+pub absent_window : (rules : Rules) (base : ℤ)
+    → replicate (rules.window * rules.channels) None ≡ window_of rules [] base
 absent_window rules base =
     let m : ℕ = rules.window * rules.channels in
-    is_map None (cell_at rules [] base) 0 m (replicate m None) (length-replicate m None) (λ k lt. get_or-replicate m k None None lt)
+    is_map None (cell_at rules [] base) 0 m (replicate m None) (length-replicate m None)
+    (λ k lt. get_or-replicate m k None None lt)
 
 -- before the first copy
-pub fresh_shows : (rules : Rules) (h : ℤ) (cells : List (Option Frame)) → 0 < rules.window → cells ≡ replicate (rules.window * rules.channels) None → Shows rules h h cells []
+pub fresh_shows : (rules : Rules) (h : ℤ) (cells : List (Option Frame)) → 0 < rules.window
+    → cells ≡ replicate (rules.window * rules.channels) None → Shows rules h h cells []
 fresh_shows rules h cells wide is = record {
   window = is ∙ absent_window rules (base_of rules h);
   start = omega (arith, ints, clamps);
@@ -49,12 +52,16 @@ pub within_more : (h k : ℤ) (cs : List Copy) → h ≤ℤ k → Within h cs �
 within_more h k cs le all = weaker (λ x. x.place ≤ℤ h) (λ x. x.place ≤ℤ k) cs (λ x l. omega (arith, ints)) all
 
 -- the horizon rises
-pub slid_shows : (rules : Rules) (h next next' : ℤ) (cells cells' : List (Option Frame)) (cs : List Copy) (count : ℕ) → 0 < rules.channels → 0 < length cs → Shows rules h next cells cs →
-    next' ≡ int_max next (base_of rules (h +ℤ pos count)) → cells' ≡ slid cells (count * rules.channels) → Shows rules (h +ℤ pos count) next' cells' cs
+pub slid_shows : (rules : Rules) (h next next' : ℤ) (cells cells' : List (Option Frame)) (cs : List Copy) (count : ℕ)
+    → 0 < rules.channels → 0 < length cs → Shows rules h next cells cs
+    → next' ≡ int_max next (base_of rules (h +ℤ pos count)) → cells' ≡ slid cells (count * rules.channels)
+    → Shows rules (h +ℤ pos count) next' cells' cs
 slid_shows rules h next next' cells cells' cs count some has shows next_is cells_is =
-    let same : least (h +ℤ pos count) cs ≡ least h cs = least_same h (h +ℤ pos count) cs has shows.within (omega (arith, ints)) in
+    let same : least (h +ℤ pos count) cs ≡ least h cs =
+    least_same h (h +ℤ pos count) cs has shows.within (omega (arith, ints)) in
     let now = shows.start in
-    let m : length (window_of rules cs (base_of rules h)) ≡ rules.window * rules.channels = length-window rules cs (base_of rules h) in
+    let m : length (window_of rules cs (base_of rules h)) ≡ rules.window * rules.channels =
+    length-window rules cs (base_of rules h) in
     record {
       window =
           cells_is ∙ ap (λ xs. slid xs (count * rules.channels)) shows.window
@@ -65,8 +72,10 @@ slid_shows rules h next next' cells cells' cs count some has shows next_is cells
     }
 
 -- new copies in the window
-pub taken_shows : (rules : Rules) (h next next' : ℤ) (cells' : List (Option Frame)) (cells : List (Option Frame)) (cs new : List Copy) → Shows rules h next cells cs →
-    Past (base_of rules h -ℤ pos 1) new → Within h new → next' ≡ least next new → cells' ≡ window_of rules (cs ++ new) (base_of rules h) → Shows rules h next' cells' (cs ++ new)
+pub taken_shows : (rules : Rules) (h next next' : ℤ) (cells' : List (Option Frame)) (cells : List (Option Frame))
+    (cs new : List Copy) → Shows rules h next cells cs
+    → Past (base_of rules h -ℤ pos 1) new → Within h new → next' ≡ least next new
+    → cells' ≡ window_of rules (cs ++ new) (base_of rules h) → Shows rules h next' cells' (cs ++ new)
 taken_shows rules h next next' cells' cells cs new shows past low next_is cells_is = record {
   window = cells_is;
   start =
@@ -77,19 +86,27 @@ taken_shows rules h next next' cells' cells cs new shows past low next_is cells_
 
 -- ---- where the new copies stand
 
-each_filtered : (P : Copy → Type 0) (t : Copy → Bool) (f : ℕ → Copy) (a n : ℕ) → ((i : ℕ) → i < a + n → t (f i) ≡ true → P (f i)) → AllByRecursion P (filter t (map f (range_with_len a n)))
+each_filtered : (P : Copy → Type 0) (t : Copy → Bool) (f : ℕ → Copy) (a n : ℕ)
+    → ((i : ℕ) → i < a + n → t (f i) ≡ true → P (f i)) → AllByRecursion P (filter t (map f (range_with_len a n)))
 each_filtered P t f a zero each = tt
 each_filtered P t f a (suc n) each =
-    let rest : AllByRecursion P (filter t (map f (range_with_len (a + 1) n))) = each_filtered P t f (a + 1) n (λ i l. each i (omega arith)) in
-    elim (t (f a)) as (λ b. t (f a) ≡ b → AllByRecursion P (cond b (f a ∷ filter t (map f (range_with_len (a + 1) n))) (filter t (map f (range_with_len (a + 1) n))))) [
+    let rest : AllByRecursion P (filter t (map f (range_with_len (a + 1) n))) =
+    each_filtered P t f (a + 1) n (λ i l. each i (omega arith)) in
+    elim (t (f a)) as (λ b. t (f a) ≡ b
+    → AllByRecursion P (cond b (f a ∷ filter t (map f (range_with_len (a + 1) n)))
+    (filter t (map f (range_with_len (a + 1) n))))) [
       | true ↦ λ e. (each a (omega arith) e, rest)
       | false ↦ λ e. rest
     ] refl
 
 -- each new copy is of a frame in time
-pub each_new : (P : Copy → Type 0) (rules : Rules) (a : Accepted) → ((i : ℕ) → i < length a.packet.value.frames → in_time rules a (block_place a (i / rules.channels)) ≡ true → P (copy_at rules a i)) →
-    AllByRecursion P (copies_in rules a)
-each_new P rules a each = each_filtered P (λ (c : Copy). in_time rules a c.place) (copy_at rules a) 0 (length a.packet.value.frames) (λ i l t. each i (omega arith) t)
+pub each_new : (P : Copy → Type 0) (rules : Rules) (a : Accepted)
+    → ((i : ℕ) → i < length a.packet.value.frames → in_time rules a (block_place a (i / rules.channels)) ≡ true
+    → P (copy_at rules a i))
+    → AllByRecursion P (copies_in rules a)
+each_new P rules a each =
+    each_filtered P (λ (c : Copy). in_time rules a c.place) (copy_at rules a) 0 (length a.packet.value.frames)
+    (λ i l t. each i (omega arith) t)
 
 -- a packet of whole blocks
 pub record IsWhole (rules : Rules) (a : Accepted) : Type 0 where
@@ -97,24 +114,30 @@ pub record IsWhole (rules : Rules) (a : Accepted) : Type 0 where
   pub some : 0 < length a.packet.value.frames
   pub whole : length a.packet.value.frames % rules.channels ≡ 0
 
-block_low : (rules : Rules) (a : Accepted) (i : ℕ) → IsWhole rules a → i < length a.packet.value.frames → block_place a (i / rules.channels) ≤ℤ last_place rules a
+block_low : (rules : Rules) (a : Accepted) (i : ℕ) → IsWhole rules a → i < length a.packet.value.frames
+    → block_place a (i / rules.channels) ≤ℤ last_place rules a
 block_low rules a i w lt =
     let s : block_place a (i / rules.channels) <ℤ (last_place rules a +ℤ pos 1) =
-    spot_high rules.channels (length a.packet.value.frames) i a.packet.value.stride a.place (last_place rules a +ℤ pos 1) w.channels lt w.whole (omega (arith, ints)) in
+    spot_high rules.channels (length a.packet.value.frames) i a.packet.value.stride a.place
+    (last_place rules a +ℤ pos 1) w.channels lt w.whole (omega (arith, ints)) in
     omega (arith, ints)
 
-pub new_within : (rules : Rules) (a : Accepted) (h : ℤ) → IsWhole rules a → last_place rules a ≤ℤ h → Within h (copies_in rules a)
-new_within rules a h w le = each_new (λ x. x.place ≤ℤ h) rules a (λ i l t. let low = block_low rules a i w l in omega (arith, ints))
+pub new_within : (rules : Rules) (a : Accepted) (h : ℤ) → IsWhole rules a → last_place rules a ≤ℤ h
+    → Within h (copies_in rules a)
+new_within rules a h w le =
+    each_new (λ x. x.place ≤ℤ h) rules a (λ i l t. let low = block_low rules a i w l in omega (arith, ints))
 
 lt_tells : (a b : ℤ) → int_lt a b ≡ true → a <ℤ b
 lt_tells a b e = by_lt_z a b (λ l. l) (λ l. let f : int_lt a b ≡ false = grind (arith, ints) in absurd cc)
 
-pub new_past : (rules : Rules) (a : Accepted) (edge t : ℤ) → IsEdge rules a edge → (t <ℤ a.place) ⊎ (t ≤ℤ edge) → Past t (copies_in rules a)
+pub new_past : (rules : Rules) (a : Accepted) (edge t : ℤ) → IsEdge rules a edge → (t <ℤ a.place) ⊎ (t ≤ℤ edge)
+    → Past t (copies_in rules a)
 new_past rules a edge t is low =
     each_new (λ x. t <ℤ x.place) rules a
     (λ i l e.
     let up = place_up a (i / rules.channels) in
-    let soon : edge <ℤ block_place a (i / rules.channels) = lt_tells edge (block_place a (i / rules.channels)) (sym (is (block_place a (i / rules.channels)) up) ∙ e) in
+    let soon : edge <ℤ block_place a (i / rules.channels) =
+    lt_tells edge (block_place a (i / rules.channels)) (sym (is (block_place a (i / rules.channels)) up) ∙ e) in
     elim low [ inl here ↦ omega (arith, ints) | inr old ↦ omega (arith, ints) ])
 
 -- ---- the last of the new copies
@@ -135,29 +158,37 @@ last_block n len m some e whole =
 lt_is : (a b : ℤ) → a <ℤ b → int_lt a b ≡ true
 lt_is a b h = grind (arith, ints)
 
-pub new_last : (rules : Rules) (a : Accepted) (edge : ℤ) → IsWhole rules a → IsEdge rules a edge → edge <ℤ last_place rules a →
-    (front : List Copy) × (d : Copy) × (copies_in rules a ≡ front ++ d ∷ []) × (d.place ≡ last_place rules a)
+pub new_last : (rules : Rules) (a : Accepted) (edge : ℤ) → IsWhole rules a → IsEdge rules a edge
+    → edge <ℤ last_place rules a
+    → (front : List Copy) × (d : Copy) × (copies_in rules a ≡ front ++ d ∷ []) × (d.place ≡ last_place rules a)
 new_last rules a edge w is soon = go (length a.packet.value.frames) refl
   where
-    go : (len : ℕ) → len ≡ length a.packet.value.frames → (front : List Copy) × (d : Copy) × (copies_to rules a len ≡ front ++ d ∷ []) × (d.place ≡ last_place rules a)
+    go : (len : ℕ) → len ≡ length a.packet.value.frames → (front : List Copy) × (d : Copy)
+        × (copies_to rules a len ≡ front ++ d ∷ []) × (d.place ≡ last_place rules a)
     go zero e = absurd (let s = w.some in omega arith)
     go (suc m) e =
-        let block : m / rules.channels ≡ blocks_in rules a.packet.value - 1 = last_block rules.channels (length a.packet.value.frames) m w.channels (sym e) w.whole in
+        let block : m / rules.channels ≡ blocks_in rules a.packet.value - 1 =
+        last_block rules.channels (length a.packet.value.frames) m w.channels (sym e) w.whole in
         let place : block_place a (m / rules.channels) ≡ last_place rules a = ap (block_place a) block in
-        let t : in_time rules a (block_place a (m / rules.channels)) ≡ true = is (block_place a (m / rules.channels)) (place_up a (m / rules.channels)) ∙ lt_is edge (block_place a (m / rules.channels)) (subst (λ p. edge <ℤ p) (sym place) soon) in
+        let t : in_time rules a (block_place a (m / rules.channels)) ≡ true =
+        is (block_place a (m / rules.channels)) (place_up a (m / rules.channels))
+        ∙ lt_is edge (block_place a (m / rules.channels)) (subst (λ p. edge <ℤ p) (sym place) soon) in
         let one : suc m ≡ m + 1 = omega arith in (
           copies_to rules a m,
           copy_at rules a m,
           ap (copies_to rules a) one
-              ∙ ap (filter (λ (c : Copy). in_time rules a c.place)) (map-range_with_len_more (copy_at rules a) 0 m m (omega arith))
-              ∙ filter-append (λ (c : Copy). in_time rules a c.place) (map (copy_at rules a) (range_with_len 0 m)) (copy_at rules a m ∷ [])
+              ∙ ap (filter (λ (c : Copy). in_time rules a c.place))
+              (map-range_with_len_more (copy_at rules a) 0 m m (omega arith))
+              ∙ filter-append (λ (c : Copy). in_time rules a c.place) (map (copy_at rules a) (range_with_len 0 m))
+              (copy_at rules a m ∷ [])
               ∙ ap (λ b. copies_to rules a m ++ cond b (copy_at rules a m ∷ []) []) t,
           place,
         )
 
 greatest_low : (h z : ℤ) (cs : List Copy) → z ≤ℤ h → Within h cs → greatest z cs ≤ℤ h
 greatest_low h z [] le all = le
-greatest_low h z (x ∷ cs) le all = greatest_low h (int_max z x.place) cs (let l = all.0 in omega (arith, ints, clamps)) all.1
+greatest_low h z (x ∷ cs) le all =
+    greatest_low h (int_max z x.place) cs (let l = all.0 in omega (arith, ints, clamps)) all.1
 
 greatest_up : (z : ℤ) (cs : List Copy) → z ≤ℤ greatest z cs
 greatest_up z [] = omega (arith, ints)
@@ -176,10 +207,16 @@ reaches_kept h [] new has all top = absurd (omega arith)
 reaches_kept h (x ∷ cs) new has all top =
     let low : greatest h new ≤ℤ h = greatest_low h h new (omega (arith, ints)) all in
     let up : h ≤ℤ greatest h new = greatest_up h new in
-    fold-append (λ (z : ℤ) (x : Copy). int_max z x.place) x.place cs new ∙ ap (λ z. greatest z new) top ∙ omega (arith, ints)
+    fold-append (λ (z : ℤ) (x : Copy). int_max z x.place) x.place cs new ∙ ap (λ z. greatest z new) top
+    ∙ omega (arith, ints)
 
-pub copies_of_more : (rules : Rules) (acc : List Accepted) (a : Accepted) → copies_of rules (acc ++ a ∷ []) ≡ copies_of rules acc ++ copies_in rules a
-copies_of_more rules acc a = flat_map-append (copies_in rules) acc (a ∷ []) ∙ ap (λ cs. copies_of rules acc ++ cs) (append-nil (copies_in rules a))
+pub copies_of_more : (rules : Rules) (acc : List Accepted) (a : Accepted)
+    → copies_of rules (acc ++ a ∷ []) ≡ copies_of rules acc ++ copies_in rules a
+copies_of_more rules acc a =
+    flat_map-append (copies_in rules) acc (a ∷ [])
+    ∙ ap (λ cs. copies_of rules acc ++ cs) (append-nil (copies_in rules a))
 
-pub greatest_last_more : (rules : Rules) (first : Accepted) (rest : List Accepted) (a : Accepted) → greatest_last rules first (rest ++ a ∷ []) ≡ int_max (greatest_last rules first rest) (last_place rules a)
-greatest_last_more rules first rest a = fold-append (λ h (x : Accepted). int_max h (last_place rules x)) (last_place rules first) rest (a ∷ [])
+pub greatest_last_more : (rules : Rules) (first : Accepted) (rest : List Accepted) (a : Accepted)
+    → greatest_last rules first (rest ++ a ∷ []) ≡ int_max (greatest_last rules first rest) (last_place rules a)
+greatest_last_more rules first rest a =
+    fold-append (λ h (x : Accepted). int_max h (last_place rules x)) (last_place rules first) rest (a ∷ [])

@@ -26,7 +26,8 @@ place_by rules s x = place_near (ticks rules.codec) s.origin x.timestamp (at s.h
 -- the verdict, by what is kept
 abbrev judged : Rules → Begun → Packet → Verdict
 judged rules s x =
-    cond (nat_eq x.ssrc s.source) (at_place rules (at s.horizon) x (delta_of rules s x) (place_by rules s x)) (OtherSource s.source x.ssrc)
+    cond (nat_eq x.ssrc s.source) (at_place rules (at s.horizon) x (delta_of rules s x) (place_by rules s x))
+    (OtherSource s.source x.ssrc)
 
 verdict_is : (rules : Rules) (s : Begun) (x : Packet) (cells : List (Option Frame)) (acc : List Accepted)
     → Holds rules (Some s) cells acc → verdict rules acc x ≡ judged rules s x
@@ -49,13 +50,15 @@ module _ (rules : Rules) (s : Begun) (x : Packet) (cells : List (Option Frame)) 
   pub other_source : nat_eq x.ssrc s.source ≡ false → verdict rules acc x ≡ OtherSource s.source x.ssrc
   other_source e =
       verdict_is rules s x cells acc holds
-      ∙ ap (λ b. cond b (at_place rules (at s.horizon) x (delta_of rules s x) (place_by rules s x)) (OtherSource s.source x.ssrc)) e
+      ∙ ap (λ b. cond b (at_place rules (at s.horizon) x (delta_of rules s x) (place_by rules s x))
+      (OtherSource s.source x.ssrc)) e
 
   same_source : nat_eq x.ssrc s.source ≡ true
       → verdict rules acc x ≡ at_place rules (at s.horizon) x (delta_of rules s x) (place_by rules s x)
   same_source e =
       verdict_is rules s x cells acc holds
-      ∙ ap (λ b. cond b (at_place rules (at s.horizon) x (delta_of rules s x) (place_by rules s x)) (OtherSource s.source x.ssrc)) e
+      ∙ ap (λ b. cond b (at_place rules (at s.horizon) x (delta_of rules s x) (place_by rules s x))
+      (OtherSource s.source x.ssrc)) e
 
   pub off_grid : (delta : ℤ) → nat_eq x.ssrc s.source ≡ true → place_by rules s x ≡ None → delta_of rules s x ≡ delta
       → verdict rules acc x ≡ OffGrid delta
@@ -63,13 +66,16 @@ module _ (rules : Rules) (s : Begun) (x : Packet) (cells : List (Option Frame)) 
       same_source e ∙ ap (at_place rules (at s.horizon) x (delta_of rules s x)) none ∙ ap OffGrid d
 
   at_seat : (place : ℕ) → nat_eq x.ssrc s.source ≡ true → place_by rules s x ≡ Some (at place)
-      → verdict rules acc x ≡ cond (int_le (last_place rules (placed (Some s) x place)) (at s.horizon +ℤ pos rules.reach))
+      → verdict rules acc x ≡ cond
+      (int_le (last_place rules (placed (Some s) x place)) (at s.horizon +ℤ pos rules.reach))
       (Accept (placed (Some s) x place)) (FarAhead (at s.horizon) (last_place rules (placed (Some s) x place)))
   at_seat place e some = same_source e ∙ ap (at_place rules (at s.horizon) x (delta_of rules s x)) some
 
   -- the last place, as the receiver counts it
-  last_at : (place last : ℕ) → last ≡ last_from rules x.value place → at last ≡ last_place rules (placed (Some s) x place)
-  last_at place last is = ap at is ∙ spot_at (placed (Some s) x place) x.value place (blocks_in rules x.value - 1) refl refl
+  last_at : (place last : ℕ) → last ≡ last_from rules x.value place
+      → at last ≡ last_place rules (placed (Some s) x place)
+  last_at place last is =
+      ap at is ∙ spot_at (placed (Some s) x place) x.value place (blocks_in rules x.value - 1) refl refl
 
   pub seated : (place last : ℕ) → nat_eq x.ssrc s.source ≡ true → place_by rules s x ≡ Some (at place)
       → last ≡ last_from rules x.value place → last ≤ s.horizon + rules.reach
@@ -79,17 +85,21 @@ module _ (rules : Rules) (s : Begun) (x : Packet) (cells : List (Option Frame)) 
       let b : int_le (last_place rules (placed (Some s) x place)) (at s.horizon +ℤ pos rules.reach) ≡ true =
       le_is _ _ (subst (λ z. z ≤ℤ (at s.horizon +ℤ pos rules.reach)) l (omega (arith, ints))) in
       at_seat place e some
-      ∙ ap (λ t. cond t (Accept (placed (Some s) x place)) (FarAhead (at s.horizon) (last_place rules (placed (Some s) x place)))) b
+      ∙ ap (λ t. cond t (Accept (placed (Some s) x place))
+      (FarAhead (at s.horizon) (last_place rules (placed (Some s) x place)))) b
 
-  pub far_ahead : (place last : ℕ) (horizon' last' : ℤ) → nat_eq x.ssrc s.source ≡ true → place_by rules s x ≡ Some (at place)
-      → last ≡ last_from rules x.value place → s.horizon + rules.reach < last → horizon' ≡ at s.horizon → last' ≡ at last
+  pub far_ahead : (place last : ℕ) (horizon' last' : ℤ) → nat_eq x.ssrc s.source ≡ true
+      → place_by rules s x ≡ Some (at place)
+      → last ≡ last_from rules x.value place → s.horizon + rules.reach < last → horizon' ≡ at s.horizon
+      → last' ≡ at last
       → verdict rules acc x ≡ FarAhead horizon' last'
   far_ahead place last horizon' last' e some is far h k =
       let l = last_at place last is in
       let b : int_le (last_place rules (placed (Some s) x place)) (at s.horizon +ℤ pos rules.reach) ≡ false =
       gt_is _ _ (subst (λ z. (at s.horizon +ℤ pos rules.reach) <ℤ z) l (omega (arith, ints))) in
       at_seat place e some
-      ∙ ap (λ t. cond t (Accept (placed (Some s) x place)) (FarAhead (at s.horizon) (last_place rules (placed (Some s) x place)))) b
+      ∙ ap (λ t. cond t (Accept (placed (Some s) x place))
+      (FarAhead (at s.horizon) (last_place rules (placed (Some s) x place)))) b
       ∙ ap (λ z. FarAhead z (last_place rules (placed (Some s) x place))) (sym h)
       ∙ ap (FarAhead horizon') (sym (k ∙ l))
 

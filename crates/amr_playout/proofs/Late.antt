@@ -8,7 +8,8 @@ range_more : (a n : ℕ) → range_with_len a (n + 1) ≡ range_with_len a n ++ 
 range_more a zero = ap (λ k. k ∷ []) (omega arith)
 range_more a (suc n) =
     let size : suc n + 1 ≡ suc (n + 1) = omega arith in
-    ap (range_with_len a) size ∙ ap (λ ks. a ∷ ks) (range_more (a + 1) n ∙ ap (λ k. range_with_len (a + 1) n ++ k ∷ []) (omega arith))
+    ap (range_with_len a) size
+    ∙ ap (λ ks. a ∷ ks) (range_more (a + 1) n ∙ ap (λ k. range_with_len (a + 1) n ++ k ∷ []) (omega arith))
 
 -- the numbers below n of which t holds
 abbrev pub count_to : (ℕ → Bool) → ℕ → ℕ

@@ -32,7 +32,8 @@ use Rattle.spec_session.specs.Packets.{Packet}
 use Rattle.spec_session.specs.Release.{gone_of}
 use Rattle.spec_session.specs.Session.{Accept, Accepted, Rules, Verdict, accepted, taken, verdict, with_packet}
 
-more : (rules : Rules) (h : List Packet) (x : Packet) → accepted rules (h ++ x ∷ []) ≡ accepted rules h ++ taken (verdict rules (accepted rules h) x)
+more : (rules : Rules) (h : List Packet) (x : Packet)
+    → accepted rules (h ++ x ∷ []) ≡ accepted rules h ++ taken (verdict rules (accepted rules h) x)
 more rules h x = fold-append (with_packet rules) [] h (x ∷ [])
 
 -- a packet that is accepted stands behind the others
@@ -46,10 +47,12 @@ none_taken v (refusal.OtherSource kept got) r = ap taken r
 none_taken v (refusal.OffGrid delta) r = ap taken r
 none_taken v (refusal.FarAhead horizon last) r = ap taken r
 
-passed_by : (rules : Rules) (h : List Packet) (x : Packet) (why : Refusal) → IsRefusal (verdict rules (accepted rules h) x) why
+passed_by : (rules : Rules) (h : List Packet) (x : Packet) (why : Refusal)
+    → IsRefusal (verdict rules (accepted rules h) x) why
     → accepted rules (h ++ x ∷ []) ≡ accepted rules h
 passed_by rules h x why r =
-    more rules h x ∙ ap (λ acc. accepted rules h ++ acc) (none_taken (verdict rules (accepted rules h) x) why r) ∙ append-nil (accepted rules h)
+    more rules h x ∙ ap (λ acc. accepted rules h ++ acc) (none_taken (verdict rules (accepted rules h) x) why r)
+    ∙ append-nil (accepted rules h)
 
 grows_by : (plan : Plan) (before : Option Begun) (s : Begun) (v : Value) (place released : ℕ) → IsSeat before place
     → IsWithinReach (rules_in plan) before v place → s.horizon ≡ horizon_with before (last_from (rules_in plan) v place)
@@ -62,7 +65,8 @@ grows_by plan (Some t) s v place released seat reach is fits rise none =
     let near = reach t refl in (rise t refl, omega (arith, is, near))
 
 -- no more blocks go out than the horizon counts
-pub few_gone : (before : Option Begun) (horizon released : ℕ) → ((t : Begun) → before ≡ Some t → t.horizon + released ≤ horizon)
+pub few_gone : (before : Option Begun) (horizon released : ℕ)
+    → ((t : Begun) → before ≡ Some t → t.horizon + released ≤ horizon)
     → (before ≡ None → released ≡ 0) → released ≤ horizon
 few_gone None horizon released rise none = let e = none refl in omega (arith, e)
 few_gone (Some t) horizon released rise none = let e = rise t refl in omega (arith, e)
@@ -73,32 +77,43 @@ accepted_by r ring s counts =
     record { plan = r.plan; session = Some s.session; cells = held_of ring.items; counts = counts; spent = r.spent }
 
 abbrev pub spent_by : Inside → Buffer Cell → Kept → View
-spent_by r ring counts = record { plan = r.plan; session = r.session; cells = held_of ring.items; counts = counts; spent = true }
+spent_by r ring counts =
+    record { plan = r.plan; session = r.session; cells = held_of ring.items; counts = counts; spent = true }
 
 module _ {S : Type 0} (b : blocks.Ghosts S) (r : Inside) (x : Packet) (old new : S) where
-  pub takes : (place : ℕ) (ring' : Buffer Cell) (s : Step) (counts : Kept) → IsSeated (rules_in r.plan) r.session x place
+  pub takes : (place : ℕ) (ring' : Buffer Cell) (s : Step) (counts : Kept)
+      → IsSeated (rules_in r.plan) r.session x place
       → IsSeat r.session place → IsWithinReach (rules_in r.plan) r.session x.value place
       → Accepts b r.plan r.session x place r.ring ring' old new s → BlockStep {A = Step} {E = Failed} b old new (Ok s)
       → r.spent ≡ false
-      → counts ≡ record { late = r.counts.late + s.taken.late; copies = r.counts.copies + s.taken.copies; blocks = r.counts.blocks + s.taken.released }
+      → counts ≡ record {
+        late = r.counts.late + s.taken.late;
+        copies = r.counts.copies + s.taken.copies;
+        blocks = r.counts.blocks + s.taken.released;
+      }
       → Takes b (view_of r) (accepted_by r ring' s counts) x old new s.taken
   takes place ring' s counts seated seat reach a step unspent counts_is =
       let rules : Rules = rules_in r.plan in
       let p : Accepted = placed r.session x place in
       let cells = held_of r.ring.items in
-      let e : (h : List Packet) → Holds rules r.session cells (accepted rules h) → accepted rules (h ++ x ∷ []) ≡ accepted rules h ++ p ∷ [] =
+      let e : (h : List Packet) → Holds rules r.session cells (accepted rules h)
+      → accepted rules (h ++ x ∷ []) ≡ accepted rules h ++ p ∷ [] =
       λ h kept. joined rules h x p (seated cells (accepted rules h) kept) in
       record {
         verdict = λ h stands. (p, seated cells (accepted rules h) stands.kept);
         stands = λ h stands. record {
           unspent = unspent;
-          kept = subst (Holds rules (Some s.session) (held_of ring'.items)) (sym (e h stands.kept)) (a.holds (accepted rules h) stands.kept);
+          kept =
+              subst (Holds rules (Some s.session) (held_of ring'.items)) (sym (e h stands.kept))
+              (a.holds (accepted rules h) stands.kept);
           counted = record {
             late =
                 (let now = ap (λ (k : Kept). k.late) counts_is in
                 let before = stands.counted.late in
                 let one = a.late in
-                let all = ap (λ acc. sum (map (late_in rules) acc)) (e h stands.kept) ∙ late_more rules (accepted rules h) p in
+                let all =
+                ap (λ acc. sum (map (late_in rules) acc)) (e h stands.kept)
+                ∙ late_more rules (accepted rules h) p in
                 omega (arith, now, before, one, all));
             copies =
                 (let now = ap (λ (k : Kept). k.copies) counts_is in
@@ -111,7 +126,9 @@ module _ {S : Type 0} (b : blocks.Ghosts S) (r : Inside) (x : Packet) (old new :
             blocks =
                 (let now = ap (λ (k : Kept). k.blocks) counts_is in
                 let before = stands.counted.blocks in
-                let all = ap (λ acc. length (gone_of rules acc)) (e h stands.kept) ∙ a.counted (accepted rules h) stands.kept in
+                let all =
+                ap (λ acc. length (gone_of rules acc)) (e h stands.kept)
+                ∙ a.counted (accepted rules h) stands.kept in
                 omega (arith, now, before, all));
           };
         };
@@ -123,12 +140,15 @@ module _ {S : Type 0} (b : blocks.Ghosts S) (r : Inside) (x : Packet) (old new :
             });
         counts = counts_is;
         few = a.few;
-        grows = grows_by r.plan r.session s.session x.value place s.taken.released seat reach a.horizon a.fits a.rise a.none;
+        grows =
+            grows_by r.plan r.session s.session x.value place s.taken.released seat reach a.horizon a.fits a.rise
+            a.none;
         unspent = unspent;
         step = record { cause = step.cause; same = step.same; ready = step.ready; kept = step.kept };
       }
 
-  pub refuses : (why : Refusal) → IsDeclined (rules_in r.plan) r.session x why → Refuses (view_of r) (view_of r) x old old why
+  pub refuses : (why : Refusal) → IsDeclined (rules_in r.plan) r.session x why
+      → Refuses (view_of r) (view_of r) x old old why
   refuses why declined =
       let rules : Rules = rules_in r.plan in
       let e : (h : List Packet) → StandsFor (view_of r) h → accepted rules (h ++ x ∷ []) ≡ accepted rules h =
@@ -140,7 +160,9 @@ module _ {S : Type 0} (b : blocks.Ghosts S) (r : Inside) (x : Packet) (old new :
           kept = subst (Holds rules r.session (held_of r.ring.items)) (sym (e h stands)) stands.kept;
           counted = record {
             late = stands.counted.late ∙ ap (λ acc. sum (map (late_in rules) acc)) (sym (e h stands));
-            copies = stands.counted.copies ∙ ap (λ acc. length (copies_of rules acc) - different (copies_of rules acc)) (sym (e h stands));
+            copies =
+                stands.counted.copies ∙ ap (λ acc. length (copies_of rules acc) - different (copies_of rules acc))
+                (sym (e h stands));
             blocks = stands.counted.blocks ∙ ap (λ acc. length (gone_of rules acc)) (sym (e h stands));
           };
         };
@@ -161,7 +183,9 @@ module _ {S : Type 0} (b : blocks.Ghosts S) (r : Inside) (x : Packet) (old new :
             (let got = part (accepted rules h) stands.kept in record {
               blocks = got.blocks;
               got = got.got;
-              more_by = ap (gone_of rules) (joined rules h x p (seated (held_of r.ring.items) (accepted rules h) stands.kept)) ∙ got.more_by;
+              more_by =
+                  ap (gone_of rules) (joined rules h x p (seated (held_of r.ring.items) (accepted rules h) stands.kept))
+                  ∙ got.more_by;
             });
         session = refl;
         counts = refl;

@@ -68,7 +68,8 @@ least_same h k (x ∷ cs) has all le =
 
 pub least_past : (t z : ℤ) (ds : List Copy) → t <ℤ z → Past t ds → t <ℤ least z ds
 least_past t z [] lt all = lt
-least_past t z (d ∷ ds) lt all = least_past t (int_min z d.place) ds (let k = all.0 in omega (arith, ints, clamps)) all.1
+least_past t z (d ∷ ds) lt all =
+    least_past t (int_min z d.place) ds (let k = all.0 in omega (arith, ints, clamps)) all.1
 
 -- the next place to go out
 pub next_more : (z b : ℤ) (ds : List Copy) → Past (b -ℤ pos 1) ds → least (int_max z b) ds ≡ int_max (least z ds) b
@@ -81,10 +82,12 @@ next_more z b (d ∷ ds) all =
 -- ---- what goes out
 
 -- the horizon rises by count places
-pub slid_out : (rules : Rules) (h next : ℤ) (cs : List Copy) (skip count : ℕ) → 0 < rules.channels → 0 < length cs → Within h cs →
-    next ≡ int_max (least h cs) (base_of rules h) → next ≡ (base_of rules h +ℤ pos skip) →
+pub slid_out : (rules : Rules) (h next : ℤ) (cs : List Copy) (skip count : ℕ) → 0 < rules.channels → 0 < length cs
+    → Within h cs
+    → next ≡ int_max (least h cs) (base_of rules h) → next ≡ (base_of rules h +ℤ pos skip) →
     out_to rules (h +ℤ pos count) cs ((h +ℤ pos count) -ℤ pos rules.window)
-    ≡ out_to rules h cs (h -ℤ pos rules.window) ++ rows rules.channels (window_of rules cs (base_of rules h)) skip (count - skip)
+    ≡ out_to rules h cs (h -ℤ pos rules.window) ++ rows rules.channels (window_of rules cs (base_of rules h)) skip
+    (count - skip)
 slid_out rules h next cs skip count some has all next_is skip_is =
     let s : ℤ = least h cs in
     let b : ℤ = base_of rules h in
@@ -95,8 +98,10 @@ slid_out rules h next cs skip count some has all next_is skip_is =
     let first : ℕ = p.first in
     let begins : (s +ℤ pos first) ≡ (b +ℤ pos skip) = p.start in
     let before : places_between s (h -ℤ pos rules.window) ≡ first = ap one_more (omega (arith, ints)) ∙ p.before in
-    let after : places_between s ((h +ℤ pos count) -ℤ pos rules.window) ≡ first + n = ap one_more (omega (arith, ints)) ∙ p.all in
-    ap (λ z. blocks_between rules cs z ((h +ℤ pos count) -ℤ pos rules.window)) (least_same h (h +ℤ pos count) cs has all (omega (arith, ints)))
+    let after : places_between s ((h +ℤ pos count) -ℤ pos rules.window) ≡ first + n =
+    ap one_more (omega (arith, ints)) ∙ p.all in
+    ap (λ z. blocks_between rules cs z ((h +ℤ pos count) -ℤ pos rules.window))
+    (least_same h (h +ℤ pos count) cs has all (omega (arith, ints)))
     ∙ ap (λ k. map f (range_with_len 0 k)) after
     ∙ joined_maps f 0 first n
     ∙ ap (λ k. map f (range_with_len 0 k) ++ map f (range_with_len (0 + first) n)) (sym before)
@@ -105,39 +110,47 @@ slid_out rules h next cs skip count some has all next_is skip_is =
     (λ k lt. ap (block_at rules cs) (omega (arith, ints)) ∙ sym (row_block rules h cs (skip + k) some all)))
 
 -- copies past t change nothing up to t
-pub late_out : (rules : Rules) (h t : ℤ) (cs ds : List Copy) → Past t ds → out_to rules h (cs ++ ds) t ≡ out_to rules h cs t
+pub late_out : (rules : Rules) (h t : ℤ) (cs ds : List Copy) → Past t ds
+    → out_to rules h (cs ++ ds) t ≡ out_to rules h cs t
 late_out rules h t cs ds all =
     let s : ℤ = least h cs in
     let both : least h (cs ++ ds) ≡ least s ds = fold-append (λ (z : ℤ) (x : Copy). int_min z x.place) h cs ds in
     let nothing : (ms : List Copy) (a : ℤ) → t <ℤ a → blocks_between rules ms a t ≡ [] =
-    λ ms a l. ap (λ k. map (λ (j : ℕ). block_at rules ms (a +ℤ pos j)) (range_with_len 0 k)) (one_more_none (t -ℤ a) (omega (arith, ints))) in
+    λ ms a l. ap (λ k. map (λ (j : ℕ). block_at rules ms (a +ℤ pos j)) (range_with_len 0 k))
+    (one_more_none (t -ℤ a) (omega (arith, ints))) in
     by_lt_z t s
     (λ l.
     ap (λ z. blocks_between rules (cs ++ ds) z t) both
     ∙ nothing (cs ++ ds) (least s ds) (least_past t s ds l all) ∙ sym (nothing cs s l))
     (λ l.
     ap (λ z. blocks_between rules (cs ++ ds) z t) (both ∙ least_kept s t ds l all)
-    ∙ map_same (λ k. block_at rules (cs ++ ds) (s +ℤ pos k)) (λ k. block_at rules cs (s +ℤ pos k)) 0 (places_between s t)
-    (λ k m. block_kept rules cs ds (s +ℤ pos k) t (let i = in_span (t -ℤ s) k (omega arith) in omega (arith, ints)) all))
+    ∙ map_same (λ k. block_at rules (cs ++ ds) (s +ℤ pos k)) (λ k. block_at rules cs (s +ℤ pos k)) 0
+    (places_between s t)
+    (λ k m. block_kept rules cs ds (s +ℤ pos k) t (let i = in_span (t -ℤ s) k (omega arith) in omega (arith, ints))
+    all))
 
 -- nothing goes out before a first copy
 pub none_out : (rules : Rules) (h : ℤ) → 0 < rules.window → out_to rules h [] (h -ℤ pos rules.window) ≡ []
 none_out rules h wide =
-    ap (λ k. map (λ (j : ℕ). block_at rules [] (h +ℤ pos j)) (range_with_len 0 k)) (one_more_none ((h -ℤ pos rules.window) -ℤ h) (omega (arith, ints)))
+    ap (λ k. map (λ (j : ℕ). block_at rules [] (h +ℤ pos j)) (range_with_len 0 k))
+    (one_more_none ((h -ℤ pos rules.window) -ℤ h) (omega (arith, ints)))
 
 -- ---- what was put out is what is released
 
 least_first : (h : ℤ) (c : Copy) (cs : List Copy) → c.place ≤ℤ h → least h (c ∷ cs) ≡ least c.place cs
 least_first h c cs low = let a : int_min h c.place ≡ c.place = omega (arith, ints, clamps) in ap (λ z. least z cs) a
 
-pub released_now : (rules : Rules) (h : ℤ) (cs : List Copy) → 0 < length cs → Within h cs → Reaches h cs → released_to rules cs (h -ℤ pos rules.window) ≡ out_to rules h cs (h -ℤ pos rules.window)
+pub released_now : (rules : Rules) (h : ℤ) (cs : List Copy) → 0 < length cs → Within h cs → Reaches h cs
+    → released_to rules cs (h -ℤ pos rules.window) ≡ out_to rules h cs (h -ℤ pos rules.window)
 released_now rules h [] has all top = absurd (omega arith)
 released_now rules h (c ∷ cs) has all top =
-    ap (λ z. blocks_between rules (c ∷ cs) z (int_min (h -ℤ pos rules.window) (greatest c.place cs))) (sym (least_first h c cs all.0))
+    ap (λ z. blocks_between rules (c ∷ cs) z (int_min (h -ℤ pos rules.window) (greatest c.place cs)))
+    (sym (least_first h c cs all.0))
     ∙ ap (λ z. blocks_between rules (c ∷ cs) (least h (c ∷ cs)) (int_min (h -ℤ pos rules.window) z)) top
     ∙ ap (blocks_between rules (c ∷ cs) (least h (c ∷ cs))) (omega (arith, ints, clamps))
 
-pub released_all : (rules : Rules) (h : ℤ) (cs : List Copy) → 0 < length cs → Within h cs → Reaches h cs → released_of rules cs ≡ out_to rules h cs h
+pub released_all : (rules : Rules) (h : ℤ) (cs : List Copy) → 0 < length cs → Within h cs → Reaches h cs
+    → released_of rules cs ≡ out_to rules h cs h
 released_all rules h [] has all top = absurd (omega arith)
 released_all rules h (c ∷ cs) has all top =
     ap (λ z. blocks_between rules (c ∷ cs) z (greatest c.place cs)) (sym (least_first h c cs all.0))

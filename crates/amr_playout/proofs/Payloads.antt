@@ -12,10 +12,14 @@ use Rattle.spec_payload.specs.Values.{FitsGroup, IsValue, Value}
 
 one_less : (b s : ℕ) → 1 ≤ b → 1 ≤ s → (b - 1) * s < b * s
 one_less zero s h k = absurd (omega arith)
-one_less (suc b) s h k = (let e : suc b * s ≡ b * s + s = grind arith in let d : suc b - 1 ≡ b = omega arith in rw d (omega arith))
+one_less (suc b) s h k =
+    (let e : suc b * s ≡ b * s + s = grind arith in let d : suc b - 1 ≡ b = omega arith in rw d (omega arith))
 
-group_fits : (o : Option ℕ) (blocks most window : ℕ) (v : Value) → 1 ≤ blocks → blocks ≤ most → most_together most o ≤ window → FitsGroup o blocks v → (blocks - 1) * v.stride < window
-group_fits None blocks most window v some le wide g = (let e : v.stride ≡ 1 = g.0 in let m : (blocks - 1) * v.stride ≡ (blocks - 1) * 1 = ap (λ k. (blocks - 1) * k) e in omega arith)
+group_fits : (o : Option ℕ) (blocks most window : ℕ) (v : Value) → 1 ≤ blocks → blocks ≤ most
+    → most_together most o ≤ window → FitsGroup o blocks v → (blocks - 1) * v.stride < window
+group_fits None blocks most window v some le wide g =
+    (let e : v.stride ≡ 1 = g.0 in let m : (blocks - 1) * v.stride ≡ (blocks - 1) * 1 = ap (λ k. (blocks - 1) * k)
+    e in omega arith)
 group_fits (Some group) blocks most window v some le wide g =
     let low = one_less blocks v.stride some g.0 in
     let high = g.3 in
@@ -26,7 +30,9 @@ fitting plan p v f same is =
     let n : ℕ = plan.profile.channels in
     let b : ℕ = is.blocks in
     let size : length v.frames ≡ b * n + 0 = is.whole ∙ ap (λ (q : Profile). b * q.channels) same ∙ omega arith in
-    let most : b ≤ plan.profile.max_blocks = (let m : p.max_blocks ≡ plan.profile.max_blocks = ap (λ (q : Profile). q.max_blocks) same in let le = is.most in omega arith) in
+    let most : b ≤ plan.profile.max_blocks =
+    (let m : p.max_blocks ≡ plan.profile.max_blocks = ap (λ (q : Profile). q.max_blocks)
+    same in let le = is.most in omega arith) in
     let blocks = f.blocks in let few = f.few in let one = is.some in
     let count : length v.frames / n ≡ b = ap (λ k. k / n) size ∙ div-mul-add b n 0 f.some in
     let bound : b * n ≤ 64 * 6 = mul-le b n 64 6 (omega arith) (omega arith) in
@@ -35,7 +41,9 @@ fitting plan p v f same is =
       some = omega (arith, size, up);
       whole = ap (λ k. k % n) size ∙ mod-mul-add b n 0 f.some;
       few = omega (arith, size, bound);
-      fits = rw count (group_fits (group_bound plan.profile.interleaving) b plan.profile.max_blocks plan.window v is.some most f.together
+      fits =
+          rw count (group_fits (group_bound plan.profile.interleaving) b plan.profile.max_blocks plan.window v is.some
+          most f.together
           (subst (λ (q : Profile). FitsGroup (group_bound q.interleaving) b v) same is.group));
     }
 

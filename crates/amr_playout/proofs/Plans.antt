@@ -9,13 +9,15 @@ use Rattle.amr_playout.specs.declared.plan.PlanFault.TheVariants as fault
 use Rattle.amr_playout.specs.declared.plan.Plan.{Plan}
 use Rattle.amr_playout.specs.Plans.{IsPlan, most_together}
 
-three : {X : Type 0} (o : Option X) (b c : Bool) (x y : X) → first (o ∷ when b x ∷ when c y ∷ []) ≡ None → (o ≡ None) × (b ≡ false) × (c ≡ false)
+three : {X : Type 0} (o : Option X) (b c : Bool) (x y : X) → first (o ∷ when b x ∷ when c y ∷ []) ≡ None
+    → (o ≡ None) × (b ≡ false) × (c ≡ false)
 three None false false x y e = (refl, refl, refl)
 three None false true x y e = absurd cc
 three None true c x y e = absurd cc
 three (Some z) b c x y e = absurd cc
 
-four : {X : Type 0} (a b c d : Bool) (x y z w : X) → first (when a x ∷ when b y ∷ when c z ∷ when d w ∷ []) ≡ None → (a ≡ false) × (d ≡ false)
+four : {X : Type 0} (a b c d : Bool) (x y z w : X) → first (when a x ∷ when b y ∷ when c z ∷ when d w ∷ []) ≡ None
+    → (a ≡ false) × (d ≡ false)
 four false false false false x y z w e = (refl, refl)
 four false false false true x y z w e = absurd cc
 four false false true d x y z w e = absurd cc
@@ -56,17 +58,25 @@ at_least blocks window (Some g) h = omega arith
 pub facts : (plan : Plan) → IsPlan plan → Facts plan
 facts plan valid =
     let p = plan.profile in
-    let narrow = nat_lt plan.window (most_together p.max_blocks (group_bound p.interleaving)) || nat_lt 4096 plan.window in
+    let narrow =
+    nat_lt plan.window (most_together p.max_blocks (group_bound p.interleaving)) || nat_lt 4096 plan.window in
     let far = nat_eq plan.reach 0 || nat_lt 45000 plan.reach in
-    let all = three (option_map (λ why. fault.Profile why) (profile_fault p)) narrow far fault.Window fault.Reach valid in
+    let all =
+    three (option_map (λ why. fault.Profile why) (profile_fault p)) narrow far fault.Window fault.Reach valid in
     let format : profile_fault p ≡ None = map_none (λ why. fault.Profile why) (profile_fault p) all.0 in
     let window = all.1 in
     let reach = all.2 in
-    let ends = four (nat_eq p.channels 0 || nat_lt 6 p.channels) ((p.crc || p.sorting || is_some p.interleaving) && not p.octet_aligned) (is_empty_group p.interleaving)
-    (nat_eq p.max_blocks 0 || nat_lt 64 p.max_blocks) format_fault.Channels format_fault.NeedsAlignment format_fault.Interleaving format_fault.MaxBlocks format in
+    let ends =
+    four (nat_eq p.channels 0 || nat_lt 6 p.channels)
+    ((p.crc || p.sorting || is_some p.interleaving) && not p.octet_aligned) (is_empty_group p.interleaving)
+    (nat_eq p.max_blocks 0 || nat_lt 64 p.max_blocks) format_fault.Channels format_fault.NeedsAlignment
+    format_fault.Interleaving format_fault.MaxBlocks format in
     let channels = ends.0 in
     let most = ends.1 in
-    let together = not_lt plan.window (most_together p.max_blocks (group_bound p.interleaving)) (or_left (nat_lt plan.window (most_together p.max_blocks (group_bound p.interleaving))) (nat_lt 4096 plan.window) window) in
+    let together =
+    not_lt plan.window (most_together p.max_blocks (group_bound p.interleaving))
+    (or_left (nat_lt plan.window (most_together p.max_blocks (group_bound p.interleaving)))
+    (nat_lt 4096 plan.window) window) in
     let least : p.max_blocks ≤ plan.window = at_least p.max_blocks plan.window (group_bound p.interleaving) together in
     let one : 0 < p.max_blocks = not_eq p.max_blocks (or_left (nat_eq p.max_blocks 0) (nat_lt 64 p.max_blocks) most) in
     record {
@@ -75,6 +85,9 @@ facts plan valid =
       blocks = not_lt 64 p.max_blocks (or_right (nat_eq p.max_blocks 0) (nat_lt 64 p.max_blocks) most);
       together = together;
       wide = omega arith;
-      narrow = not_lt 4096 plan.window (or_right (nat_lt plan.window (most_together p.max_blocks (group_bound p.interleaving))) (nat_lt 4096 plan.window) window);
+      narrow =
+          not_lt 4096 plan.window
+          (or_right (nat_lt plan.window (most_together p.max_blocks (group_bound p.interleaving)))
+          (nat_lt 4096 plan.window) window);
       reach = not_lt 45000 plan.reach (or_right (nat_eq plan.reach 0) (nat_lt 45000 plan.reach) reach);
     }

@@ -12,42 +12,53 @@ use Rattle.amr_playout.specs.Window.{item, row, rows, slid}
 use Rattle.spec_session.specs.Quality.{stored}
 
 -- a list with the items of a function over a range is its map
-pub is_map : {X : Type 0} (d : X) (f : ℕ → X) (a n : ℕ) (xs : List X) → length xs ≡ n → ((k : ℕ) → k < n → get_or xs k d ≡ f (a + k)) → xs ≡ map f (range_with_len a n)
+pub is_map : {X : Type 0} (d : X) (f : ℕ → X) (a n : ℕ) (xs : List X) → length xs ≡ n
+    → ((k : ℕ) → k < n → get_or xs k d ≡ f (a + k)) → xs ≡ map f (range_with_len a n)
 is_map d f a n xs len each =
     ext_get_or d xs (map f (range_with_len a n)) (len ∙ sym (length-map-range_with_len f a n))
     (λ k h. each k (omega arith) ∙ sym (get_or-map-range_with_len f a n k (a + k) d (omega arith) refl))
 
 -- one cell out at the front, and an absent one in at the end
-slid_one : {X : Type 0} (xs : List X) (d : X) (c : ℕ) → c < length xs → drop 1 (drop c xs ++ replicate c d ++ d ∷ []) ≡ drop (c + 1) xs ++ replicate (c + 1) d
+slid_one : {X : Type 0} (xs : List X) (d : X) (c : ℕ) → c < length xs
+    → drop 1 (drop c xs ++ replicate c d ++ d ∷ []) ≡ drop (c + 1) xs ++ replicate (c + 1) d
 slid_one xs d c h =
-    rw (drop_more xs c d h) (append_assoc (drop (c + 1) xs) (replicate c d) (d ∷ []) ∙ ap (λ r. drop (c + 1) xs ++ r) (replicate_more c d))
+    rw (drop_more xs c d h)
+    (append_assoc (drop (c + 1) xs) (replicate c d) (d ∷ []) ∙ ap (λ r. drop (c + 1) xs ++ r) (replicate_more c d))
 
 -- a full ring of which c cells were pushed out, and one more
-pub pushed : {X : Type 0} (xs ys : List X) (d : X) (cap c : ℕ) → length xs ≡ cap → c < cap → ys ≡ drop c xs ++ replicate c d →
-    keep_last cap (ys ++ d ∷ []) ≡ drop (c + 1) xs ++ replicate (c + 1) d
+pub pushed : {X : Type 0} (xs ys : List X) (d : X) (cap c : ℕ) → length xs ≡ cap → c < cap
+    → ys ≡ drop c xs ++ replicate c d
+    → keep_last cap (ys ++ d ∷ []) ≡ drop (c + 1) xs ++ replicate (c + 1) d
 pushed {X} xs ys d cap c len lt is =
-    let ly : length ys ≡ cap = ap length is ∙ length-append (drop c xs) (replicate c d) ∙ omega (arith, length-drop c xs, length-replicate c d) in
+    let ly : length ys ≡ cap =
+    ap length is ∙ length-append (drop c xs) (replicate c d)
+    ∙ omega (arith, length-drop c xs, length-replicate c d) in
     let one : length (ys ++ d ∷ []) - cap ≡ 1 = omega (arith, length-append ys (d ∷ [])) in
     ap (λ k. drop k (ys ++ d ∷ [])) one ∙ ap (λ zs. drop 1 (zs ++ d ∷ [])) is ∙ slid_one xs d c (omega arith)
 
-pub length-pushed : {X : Type 0} (xs : List X) (d : X) (c : ℕ) → c ≤ length xs → length (drop c xs ++ replicate c d) ≡ length xs
-length-pushed xs d c h = omega (arith, length-append (drop c xs) (replicate c d), length-drop c xs, length-replicate c d)
+pub length-pushed : {X : Type 0} (xs : List X) (d : X) (c : ℕ) → c ≤ length xs
+    → length (drop c xs ++ replicate c d) ≡ length xs
+length-pushed xs d c h =
+    omega (arith, length-append (drop c xs) (replicate c d), length-drop c xs, length-replicate c d)
 
 -- the cell pushed out
-pub front_out : {X : Type 0} (xs ys : List X) (d : X) (cap c : ℕ) → length xs ≡ cap → c < cap → ys ≡ drop c xs ++ replicate c d →
-    get_or (ys ++ d ∷ []) 0 d ≡ get_or xs c d
+pub front_out : {X : Type 0} (xs ys : List X) (d : X) (cap c : ℕ) → length xs ≡ cap → c < cap
+    → ys ≡ drop c xs ++ replicate c d
+    → get_or (ys ++ d ∷ []) 0 d ≡ get_or xs c d
 front_out xs ys d cap c len lt is =
     ap (λ zs. get_or (zs ++ d ∷ []) 0 d) is ∙ rw (drop_more xs c d (omega arith)) refl
 
 -- what a full ring's push gives
-pub popped : {X : Type 0} (zs : List X) (d : X) (n cap : ℕ) (r : Option X) → n ≡ cap → r ≡ (if nat_lt n cap then None else slice_get zs 0) → unwrap_or r d ≡ get_or zs 0 d
+pub popped : {X : Type 0} (zs : List X) (d : X) (n cap : ℕ) (r : Option X) → n ≡ cap
+    → r ≡ (if nat_lt n cap then None else slice_get zs 0) → unwrap_or r d ≡ get_or zs 0 d
 popped [] d n cap r full is = grind (arith, common_steps)
 popped (z ∷ zs) d n cap r full is = grind (arith, common_steps)
 
 -- ---- sliding by whole blocks
 
 -- a slide of k absent items
-pub slide : (xs : List (Option Frame)) (a k : ℕ) → k ≤ length xs → drop k (slid xs a) ++ replicate k None ≡ slid xs (a + k)
+pub slide : (xs : List (Option Frame)) (a k : ℕ) → k ≤ length xs
+    → drop k (slid xs a) ++ replicate k None ≡ slid xs (a + k)
 slide xs a k h =
     let n : ℕ = length xs in
     let s : List (Option Frame) = slid xs a in
@@ -59,37 +70,47 @@ slide xs a k h =
     (λ j hj. elim (cases_lt j (n - k)) [
       | inl lt ↦
           get_or_append_left (drop k s) none None j (omega arith)
-          ∙ get_or-drop k s j None ∙ get_or-map-range_with_len (item xs) a n (k + j) (a + (k + j)) None (omega arith) refl ∙ ap (item xs) (omega arith)
+          ∙ get_or-drop k s j None ∙ get_or-map-range_with_len (item xs) a n (k + j) (a + (k + j)) None (omega arith)
+          refl ∙ ap (item xs) (omega arith)
       | inr ge ↦
           get_or-append_right (drop k s) none (n - k) j None ld ge
-          ∙ get_or-replicate k (j - (n - k)) None None (omega arith) ∙ sym (get_or_past xs (a + k + j) None (omega arith))
+          ∙ get_or-replicate k (j - (n - k)) None None (omega arith)
+          ∙ sym (get_or_past xs (a + k + j) None (omega arith))
     ])
 
 pub times_more : (i c : ℕ) → i * c + c ≡ (i + 1) * c
 times_more i c = grind arith
 
-pub slid_on : (xs ys : List (Option Frame)) (i c : ℕ) → c ≤ length xs → ys ≡ slid xs (i * c) → drop c ys ++ replicate c None ≡ slid xs ((i + 1) * c)
-slid_on xs ys i c le is = ap (λ zs. drop c zs ++ replicate c None) is ∙ slide xs (i * c) c le ∙ ap (slid xs) (times_more i c)
+pub slid_on : (xs ys : List (Option Frame)) (i c : ℕ) → c ≤ length xs → ys ≡ slid xs (i * c)
+    → drop c ys ++ replicate c None ≡ slid xs ((i + 1) * c)
+slid_on xs ys i c le is =
+    ap (λ zs. drop c zs ++ replicate c None) is ∙ slide xs (i * c) c le ∙ ap (slid xs) (times_more i c)
 
 -- the block pushed out
-pub row_out : (xs ys : List (Option Frame)) (i c : ℕ) → c ≤ length xs → ys ≡ slid xs (i * c) → map stored (take c ys) ≡ row c xs i
-row_out xs ys i c le is = ap (λ zs. map stored (take c zs)) is ∙ ap (map stored) (take-map-range_with_len (item xs) (i * c) (length xs) c le)
+pub row_out : (xs ys : List (Option Frame)) (i c : ℕ) → c ≤ length xs → ys ≡ slid xs (i * c)
+    → map stored (take c ys) ≡ row c xs i
+row_out xs ys i c le is =
+    ap (λ zs. map stored (take c zs)) is ∙ ap (map stored) (take-map-range_with_len (item xs) (i * c) (length xs) c le)
 
-pub rows_more : (c : ℕ) (xs : List (Option Frame)) (skip i : ℕ) → skip ≤ i → rows c xs skip (i + 1 - skip) ≡ rows c xs skip (i - skip) ++ row c xs i ∷ []
+pub rows_more : (c : ℕ) (xs : List (Option Frame)) (skip i : ℕ) → skip ≤ i
+    → rows c xs skip (i + 1 - skip) ≡ rows c xs skip (i - skip) ++ row c xs i ∷ []
 rows_more c xs skip i le =
     let one : i + 1 - skip ≡ (i - skip) + 1 = omega arith in
     ap (rows c xs skip) one ∙ map-range_with_len_more (row c xs) skip (i - skip) i (omega arith)
 
-pub rows_none : (c : ℕ) (xs : List (Option Frame)) (skip i : ℕ) → i < skip → rows c xs skip (i + 1 - skip) ≡ rows c xs skip (i - skip)
+pub rows_none : (c : ℕ) (xs : List (Option Frame)) (skip i : ℕ) → i < skip
+    → rows c xs skip (i + 1 - skip) ≡ rows c xs skip (i - skip)
 rows_none c xs skip i lt = let same : i + 1 - skip ≡ i - skip = omega arith in ap (rows c xs skip) same
 
 -- the rows after block i are the rest of all
-pub rows_rest : (c : ℕ) (xs : List (Option Frame)) (skip i n : ℕ) → skip ≤ i → i < n → (rest : List (List Frame)) × (rows c xs skip (n - skip) ≡ rows c xs skip (i - skip) ++ row c xs i ∷ rest)
+pub rows_rest : (c : ℕ) (xs : List (Option Frame)) (skip i n : ℕ) → skip ≤ i → i < n
+    → (rest : List (List Frame)) × (rows c xs skip (n - skip) ≡ rows c xs skip (i - skip) ++ row c xs i ∷ rest)
 rows_rest c xs skip i n le lt = (
   rows c xs (i + 1) (n - (i + 1)),
   (let all : n - skip ≡ (i - skip) + (suc (n - (i + 1))) = omega arith in
       let place : skip + (i - skip) ≡ i = omega arith in
-      ap (rows c xs skip) all ∙ joined skip (i - skip) (suc (n - (i + 1))) ∙ ap (λ k. rows c xs skip (i - skip) ++ rows c xs k (suc (n - (i + 1)))) place),
+      ap (rows c xs skip) all ∙ joined skip (i - skip) (suc (n - (i + 1)))
+      ∙ ap (λ k. rows c xs skip (i - skip) ++ rows c xs k (suc (n - (i + 1)))) place),
 )
   where
     joined : (a m k : ℕ) → rows c xs a (m + k) ≡ rows c xs a m ++ rows c xs (a + m) k

@@ -24,7 +24,9 @@ loop-preserved c =
           ∙ ap (λ fs. fs ++ frames_of (x ∷ [])) c.loop.invariant.frames
           ∙ ap (λ f. replicate c.loop.counter no_data ++ f ∷ []) c.no_data.ensures.like_absent
           ∙ replicate_more c.loop.counter no_data;
-      present = subst (AllByRecursion (λ (cell : Cell). IsTrue cell.present)) (sym c.push.ensures.items) (all-more (λ (cell : Cell). IsTrue cell.present) xs x c.loop.invariant.present c.no_data.ensures.present);
+      present =
+          subst (AllByRecursion (λ (cell : Cell). IsTrue cell.present)) (sym c.push.ensures.items)
+          (all-more (λ (cell : Cell). IsTrue cell.present) xs x c.loop.invariant.present c.no_data.ensures.present);
     }
 
 pub returns-clause-frames : goal.returns-clause-frames
@@ -35,7 +37,8 @@ returns-clause-frames c =
 pub returns-clause-block : goal.returns-clause-block
 returns-clause-block c = λ codec.
     let end : c.loop.counter ≡ c.args.channels = omega arith in
-    let frames : frames_of c.loop.block.items ≡ replicate c.args.channels no_data = c.loop.invariant.frames ∙ ap (λ n. replicate n no_data) end in
+    let frames : frames_of c.loop.block.items ≡ replicate c.args.channels no_data =
+    c.loop.invariant.frames ∙ ap (λ n. replicate n no_data) end in
     record {
       present = c.loop.invariant.present;
       block = record {

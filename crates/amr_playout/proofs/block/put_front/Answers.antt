@@ -8,4 +8,6 @@ pub returns-clause-items : goal.returns-clause-items
 returns-clause-items g c =
     let n : ℕ = c.args.channels in
     c.push_absent.ensures.items
-    ∙ ap (λ os. os ++ replicate {A = Option Frame} n None) (sym (held-drop n c.fill_front.new.ring.items) ∙ ap held_of c.fill_front.ensures.rest ∙ held-drop n c.args.ring.now.items)
+    ∙ ap (λ os. os ++ replicate {A = Option Frame} n None)
+    (sym (held-drop n c.fill_front.new.ring.items) ∙ ap held_of c.fill_front.ensures.rest
+    ∙ held-drop n c.args.ring.now.items)

@@ -30,17 +30,23 @@ loop-index-preserved c =
     let block = c.share_of.ensures in
     let stride = c.stride-stride.ensures in
     let channel = c.channel_of-channel.ensures in
-    let same : newly (at c.args.edge) (at (c.args.place + c.share_of.result * c.stride-stride.result)) c.channel_of-channel.result f ≡ newly (at c.args.edge) (at (c.args.place + (i / n) * v.stride)) (i % n) f =
+    let same : newly (at c.args.edge) (at (c.args.place + c.share_of.result * c.stride-stride.result))
+    c.channel_of-channel.result f ≡ newly (at c.args.edge) (at (c.args.place + (i / n) * v.stride)) (i % n) f =
     (λ j. newly (at c.args.edge) (at (c.args.place + block j * stride j)) (channel j) f) in
     let inv = c.loop-index.invariant in
     let step = c.merge_past-merged.ensures in
     record {
       merged = λ a past.
-          (let grown : copies_to rules a i ++ newly (at c.args.edge) (at (c.args.place + c.share_of.result * c.stride-stride.result)) c.channel_of-channel.result f ≡ copies_to rules a (i + 1) =
+          (let grown : copies_to rules a i ++ newly (at c.args.edge)
+          (at (c.args.place + c.share_of.result * c.stride-stride.result)) c.channel_of-channel.result f ≡ copies_to
+          rules a (i + 1) =
           ap (λ ds. copies_to rules a i ++ ds) same
-          ∙ frame_more rules a v (at c.args.edge) c.args.place i f [] past.value past.here past.past (held_frame c.next_frame-frame.result _ c.next_frame-frame.ensures.frame) in
-          subst (TakesCopies c.args.plan.now c.args.base c.args.ring.now c.merge_past-merged.new.ring _ c.merge_past-merged.result) grown
-          (taken_more c.args.plan.now c.args.base c.args.ring.now c.loop-index.ring c.merge_past-merged.new.ring _ c.loop-index.merged c.merge_past-merged.result _ _ (inv.merged a past) step.merged));
+          ∙ frame_more rules a v (at c.args.edge) c.args.place i f [] past.value past.here past.past
+          (held_frame c.next_frame-frame.result _ c.next_frame-frame.ensures.frame) in
+          subst (TakesCopies c.args.plan.now c.args.base c.args.ring.now c.merge_past-merged.new.ring _
+          c.merge_past-merged.result) grown
+          (taken_more c.args.plan.now c.args.base c.args.ring.now c.loop-index.ring c.merge_past-merged.new.ring _
+          c.loop-index.merged c.merge_past-merged.result _ _ (inv.merged a past) step.merged));
       few = (let more = step.few in let so_far = inv.few in omega arith);
       stands = c.next_frame-frame.ensures.stands;
       ring = step.ring;
@@ -58,8 +64,10 @@ merge_past-merged-requires-clause-within c =
     let lt : i < length v.frames = omega (arith, t, count) in
     let some : 0 < n = (facts c.args.plan.now c.requires.ring.planned).some in
     let low : i / n ≤ length v.frames / n - 1 = block_of n (length v.frames) i some lt c.requires.fitting.whole in
-    let le : (i / n) * s ≤ (length v.frames / n - 1) * s = mul-le (i / n) s (length v.frames / n - 1) s low (omega arith) in
-    let same : (length v.frames / n - 1) * s ≡ (length v.frames / n - 1) * v.stride = ap (λ k. (length v.frames / n - 1) * k) stride in
+    let le : (i / n) * s ≤ (length v.frames / n - 1) * s =
+    mul-le (i / n) s (length v.frames / n - 1) s low (omega arith) in
+    let same : (length v.frames / n - 1) * s ≡ (length v.frames / n - 1) * v.stride =
+    ap (λ k. (length v.frames / n - 1) * k) stride in
     let block : c.share_of.result * s ≡ (i / n) * s = ap (λ k. k * s) c.share_of.ensures in (
       (λ past. elim c.requires.low [ inl here ↦ omega (arith, here) | inr old ↦ omega (arith, old, past) ]),
       omega (arith, c.requires.high, le, same, block),
@@ -78,7 +86,9 @@ returns-clause-merged c = λ a past.
     let t = c.loop-index-test.false in
     let e = c.loop-index.auto.index-end in
     let count = c.frames-index-end.ensures.frames in
-    let size : length (viewed c.args.payload.now).frames ≡ length a.packet.value.frames = ap (λ (w : Value). length w.frames) (sym past.value) in
+    let size : length (viewed c.args.payload.now).frames ≡ length a.packet.value.frames =
+    ap (λ (w : Value). length w.frames) (sym past.value) in
     let end : c.loop-index.index ≡ length a.packet.value.frames = omega (arith, size, t, e, count) in
-    subst (λ k. TakesCopies c.args.plan.now c.args.base c.args.ring.now c.loop-index.ring (record { next = c.args.next; copies = 0 }) c.loop-index.merged (copies_to (rules_in c.args.plan.now) a k)) end
+    subst (λ k. TakesCopies c.args.plan.now c.args.base c.args.ring.now c.loop-index.ring
+    (record { next = c.args.next; copies = 0 }) c.loop-index.merged (copies_to (rules_in c.args.plan.now) a k)) end
     (c.loop-index.invariant.merged a past)

@@ -10,7 +10,8 @@ use Rattle.amr_playout.proofs.merge.merge_all.Given as goal
 abbrev pub invariant-loop-index : goal.invariant-loop-index
 invariant-loop-index l = record {
   merged : (a : Accepted) → IsPast (rules_in l.plan) (viewed l.payload) l.place l.edge a →
-      TakesCopies l.plan l.base l.initial.ring l.ring (record { next = l.next; copies = 0 }) l.merged (copies_to (rules_in l.plan) a l.index);
+      TakesCopies l.plan l.base l.initial.ring l.ring (record { next = l.next; copies = 0 }) l.merged
+      (copies_to (rules_in l.plan) a l.index);
   few : l.merged.copies ≤ l.index;
   stands : StandsAt l.payload l.walked l.index;
   ring : IsRing l.plan l.ring;

@@ -15,9 +15,12 @@ loop-at-preserved c =
     let d : Cell = c.absent-none.result in
     let lt : k < length xs = omega arith in
     let items : c.push_back.new.self.items ≡ drop (k + 1) xs ++ replicate (k + 1) d =
-    ap (λ b. b.items) c.push_back.ensures.items ∙ pushed xs c.loop-at.ring.items d c.loop-at.ring.capacity k (omega arith) (omega arith) c.loop-at.invariant.items in
+    ap (λ b. b.items) c.push_back.ensures.items ∙ pushed xs c.loop-at.ring.items d c.loop-at.ring.capacity k
+    (omega arith) (omega arith) c.loop-at.invariant.items in
     record {
-      full = ap length items ∙ length-pushed xs d (k + 1) (omega arith) ∙ omega (arith, ap (λ b. b.capacity) c.push_back.ensures.items);
+      full =
+          ap length items ∙ length-pushed xs d (k + 1) (omega arith)
+          ∙ omega (arith, ap (λ b. b.capacity) c.push_back.ensures.items);
       capacity = ap (λ b. b.capacity) c.push_back.ensures.items ∙ c.loop-at.invariant.capacity;
       items = items;
     }
@@ -42,8 +45,10 @@ returns-clause-ring c =
     record {
       valid =
           subst (AllByRecursion (IsCell c.args.codec)) (sym c.loop-at.invariant.items)
-          (all-append (IsCell c.args.codec) (drop n xs) (replicate n d) (all-drop (IsCell c.args.codec) n xs c.requires.full.valid)
-          (all-replicate (IsCell c.args.codec) n d (absent_is c.args.codec d c.absent-none.ensures.present c.absent-none.ensures.like_no_data)));
+          (all-append (IsCell c.args.codec) (drop n xs) (replicate n d)
+          (all-drop (IsCell c.args.codec) n xs c.requires.full.valid)
+          (all-replicate (IsCell c.args.codec) n d
+          (absent_is c.args.codec d c.absent-none.ensures.present c.absent-none.ensures.like_no_data)));
       size = c.loop-at.invariant.full ∙ capacity ∙ sym c.requires.full.full;
       capacity = capacity;
     }

@@ -16,7 +16,8 @@ use Rattle.amr_playout.proofs.step.accept.Goals as goal
 pub reach_to-requires-clause-last : goal.reach_to-requires-clause-last
 reach_to-requires-clause-last g c = (
   (λ e. let first = c.requires.seat.first e in let after = c.last_of-last.ensures.after in omega (arith, first, after)),
-  last_under c.args.plan.now c.args.place c.last_of-last.result (facts c.args.plan.now c.requires.ready.ringed.planned) c.requires.seat.below c.last_of-last.ensures.fits,
+  last_under c.args.plan.now c.args.place c.last_of-last.result (facts c.args.plan.now c.requires.ready.ringed.planned)
+      c.requires.seat.below c.last_of-last.ensures.fits,
 )
 
 pub returns-in_err-reached-clause-part : goal.returns-in_err-reached-clause-part
@@ -28,7 +29,8 @@ returns-in_err-reached-clause-part g c =
     let last : ℕ = c.last_of-last.result in
     let l = c.last_of-last.ensures in
     let stands : IsPlaced rules before (placed before x c.args.place) c.args.place last (horizon_with before last) =
-    is_placed c.args.plan.now before x c.args.place last (horizon_with before last) (facts c.args.plan.now c.requires.ready.ringed.planned)
+    is_placed c.args.plan.now before x c.args.place last (horizon_with before last)
+    (facts c.args.plan.now c.requires.ready.ringed.planned)
     l.fitting.some l.fitting.whole c.requires.ready.inside c.requires.seat.above l.last l.fits l.after refl in
     on_err c.from_residual.result _ (λ acc holds.
     let got = c.in_err-reached.ensures.part (copies_of rules acc) (before_shows rules before old acc holds) in record {
@@ -40,8 +42,11 @@ returns-in_err-reached-clause-part g c =
 
 pub overflow_add-base : goal.overflow_add-base
 overflow_add-base g c =
-    let s = reached_small c.args.plan.now c.args.before.now c.args.place c.last_of-last.result c.in_ok-reached.reached.horizon
-    (facts c.args.plan.now c.requires.ready.ringed.planned) c.requires.ready.inside c.requires.seat.below c.last_of-last.ensures.fits c.in_ok-reached.ensures.slid.horizon in
+    let s =
+    reached_small c.args.plan.now c.args.before.now c.args.place c.last_of-last.result
+    c.in_ok-reached.reached.horizon
+    (facts c.args.plan.now c.requires.ready.ringed.planned) c.requires.ready.inside c.requires.seat.below
+    c.last_of-last.ensures.fits c.in_ok-reached.ensures.slid.horizon in
     omega (arith, s)
 
 pub overflow_sub-base : goal.overflow_sub-base
@@ -52,21 +57,28 @@ overflow_sub-base g c =
 
 pub merge_all-merged-requires-clause-low : goal.merge_all-merged-requires-clause-low
 merge_all-merged-requires-clause-low g c =
-    low_base (rules_in c.args.plan.now) c.args.before.now c.args.place c.last_of-last.result c.in_ok-reached.reached.horizon c.from.result c.edge_of-edge.result
+    low_base (rules_in c.args.plan.now) c.args.before.now c.args.place c.last_of-last.result
+    c.in_ok-reached.reached.horizon c.from.result c.edge_of-edge.result
     c.from.ensures c.edge_of-edge.ensures c.in_ok-reached.ensures.slid.horizon c.last_of-last.ensures.fits
 
 pub merge_all-merged-requires-clause-high : goal.merge_all-merged-requires-clause-high
 merge_all-merged-requires-clause-high g c =
     let narrow = (facts c.args.plan.now c.requires.ready.ringed.planned).narrow in
     let begun = c.in_ok-reached.ensures.slid.inside.0 in
-    let up = step_up c.args.before.now c.last_of-last.result c.in_ok-reached.reached.horizon c.in_ok-reached.ensures.slid.horizon in
-    subst (λ k. k < (c.in_ok-reached.reached.horizon + 1 - c.from.result) + c.args.plan.now.window) c.last_of-last.ensures.last
+    let up =
+    step_up c.args.before.now c.last_of-last.result c.in_ok-reached.reached.horizon
+    c.in_ok-reached.ensures.slid.horizon in
+    subst (λ k. k < (c.in_ok-reached.reached.horizon + 1 - c.from.result) + c.args.plan.now.window)
+    c.last_of-last.ensures.last
     (omega (arith, narrow, begun, up, c.from.ensures))
 
 pub merge_all-merged-requires-clause-small : goal.merge_all-merged-requires-clause-small
 merge_all-merged-requires-clause-small g c =
-    let s = reached_small c.args.plan.now c.args.before.now c.args.place c.last_of-last.result c.in_ok-reached.reached.horizon
-    (facts c.args.plan.now c.requires.ready.ringed.planned) c.requires.ready.inside c.requires.seat.below c.last_of-last.ensures.fits c.in_ok-reached.ensures.slid.horizon in
+    let s =
+    reached_small c.args.plan.now c.args.before.now c.args.place c.last_of-last.result
+    c.in_ok-reached.reached.horizon
+    (facts c.args.plan.now c.requires.ready.ringed.planned) c.requires.ready.inside c.requires.seat.below
+    c.last_of-last.ensures.fits c.in_ok-reached.ensures.slid.horizon in
     omega (arith, s)
 
 pub returns-clause-accepted : goal.returns-clause-accepted
@@ -84,10 +96,12 @@ returns-clause-accepted g c =
     let slid = c.in_ok-reached.ensures.slid in
     let next = c.merge_all-merged.result.next in
     let step : IsPlaced rules before a c.args.place last r.horizon =
-    is_placed c.args.plan.now before x c.args.place last r.horizon (facts c.args.plan.now c.requires.ready.ringed.planned)
+    is_placed c.args.plan.now before x c.args.place last r.horizon
+    (facts c.args.plan.now c.requires.ready.ringed.planned)
     l.fitting.some l.fitting.whole c.requires.ready.inside c.requires.seat.above l.last l.fits l.after slid.horizon in
     let narrow = (facts c.args.plan.now c.requires.ready.ringed.planned).narrow in
-    let base : at (r.horizon + 1 - c.from.result) ≡ base_of rules (at r.horizon) = base_at rules r.horizon c.from.result c.from.ensures narrow slid.inside.0 in
+    let base : at (r.horizon + 1 - c.from.result) ≡ base_of rules (at r.horizon) =
+    base_at rules r.horizon c.from.result c.from.ensures narrow slid.inside.0 in
     let past : IsPast rules x.value c.args.place c.edge_of-edge.result a = record {
       value = refl;
       here = refl;
@@ -95,14 +109,20 @@ returns-clause-accepted g c =
     } in
     let taken = c.merge_all-merged.ensures.merged a past in
     let merge : IsMerged rules mid cells a r.horizon r.next next = record {
-      merged = λ cs is. taken.merged cs (is ∙ ap (window_of rules cs) (sym base)) ∙ ap (window_of rules (cs ++ copies_in rules a)) base;
+      merged =
+          λ cs is. taken.merged cs (is ∙ ap (window_of rules cs) (sym base))
+          ∙ ap (window_of rules (cs ++ copies_in rules a)) base;
       next_is = taken.least_is;
     } in
-    let inside = next_inside rules before a c.args.place last r.horizon r.next next step slid.inside.0 slid.inside.1 slid.inside.2 taken.least_is in
+    let inside =
+    next_inside rules before a c.args.place last r.horizon r.next next step slid.inside.0 slid.inside.1
+    slid.inside.2 taken.least_is in
     record {
       holds = λ acc holds.
-          step_holds rules before old mid cells acc x c.args.place last r.horizon r.next next c.start_of-source.result.0 c.start_of-source.result.1
-          step merge (slid.shows (copies_of rules acc) (before_shows rules before old acc holds)) c.start_of-source.ensures.fresh c.start_of-source.ensures.going holds;
+          step_holds rules before old mid cells acc x c.args.place last r.horizon r.next next c.start_of-source.result.0
+          c.start_of-source.result.1
+          step merge (slid.shows (copies_of rules acc) (before_shows rules before old acc holds))
+          c.start_of-source.ensures.fresh c.start_of-source.ensures.going holds;
       out = λ acc holds.
           (let got = slid.out (copies_of rules acc) (before_shows rules before old acc holds) in record {
             blocks = got.blocks;
@@ -117,13 +137,17 @@ returns-clause-accepted g c =
           omega (arith, count, after, sent));
       copies = λ acc holds.
           (let shows = slid.shows (copies_of rules acc) (before_shows rules before old acc holds) in
-          let count = taken.counted (copies_of rules acc) (shows.window ∙ ap (window_of rules (copies_of rules acc)) (sym base)) in
+          let count =
+          taken.counted (copies_of rules acc)
+          (shows.window ∙ ap (window_of rules (copies_of rules acc)) (sym base)) in
           omega (arith, count));
       late = c.late_blocks-late.ensures.late a past;
       inside = (
         (slid.inside.0, inside.0, inside.1),
-        reached_small c.args.plan.now c.args.before.now c.args.place c.last_of-last.result c.in_ok-reached.reached.horizon
-            (facts c.args.plan.now c.requires.ready.ringed.planned) c.requires.ready.inside c.requires.seat.below c.last_of-last.ensures.fits c.in_ok-reached.ensures.slid.horizon,
+        reached_small c.args.plan.now c.args.before.now c.args.place c.last_of-last.result
+            c.in_ok-reached.reached.horizon
+            (facts c.args.plan.now c.requires.ready.ringed.planned) c.requires.ready.inside c.requires.seat.below
+            c.last_of-last.ensures.fits c.in_ok-reached.ensures.slid.horizon,
       );
       horizon = slid.horizon ∙ ap (horizon_with before) l.last;
       fits = subst (λ k. k < c.args.place + c.args.plan.now.window) l.last l.fits;

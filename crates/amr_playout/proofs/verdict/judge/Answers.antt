@@ -13,7 +13,8 @@ use Rattle.amr_playout.proofs.verdict.judge.Goals as goal
 pub returns-then-got-session-clause-declined : goal.returns-then-got-session-clause-declined
 returns-then-got-session-clause-declined c = λ cells acc holds.
     let x = heard c.args.rtp.now c.args.payload.now in
-    let e : nat_eq x.ssrc c.args.session.now.source ≡ false = grind (arith, nat_tests, c.ssrc-got.ensures, c.if-got-session.true) in
+    let e : nat_eq x.ssrc c.args.session.now.source ≡ false =
+    grind (arith, nat_tests, c.ssrc-got.ensures, c.if-got-session.true) in
     other_source (rules_in c.args.plan.now) c.args.session.now x cells acc holds e
     ∙ ap (OtherSource c.args.session.now.source) (sym c.ssrc-got.ensures)
 
@@ -21,7 +22,8 @@ pub returns-in-Err-clause-declined : goal.returns-in-Err-clause-declined
 returns-in-Err-clause-declined c = λ cells acc holds.
     let x = heard c.args.rtp.now c.args.payload.now in
     let s = c.args.session.now in
-    let e : nat_eq x.ssrc s.source ≡ true = same_number c.ssrc-got.result x.ssrc s.source c.ssrc-got.ensures c.if-got-session.false in
+    let e : nat_eq x.ssrc s.source ≡ true =
+    same_number c.ssrc-got.result x.ssrc s.source c.ssrc-got.ensures c.if-got-session.false in
     let k = ticks c.args.plan.now.profile.codec in
     let back : to_z w64 (of_z w64 c.in-Err.delta) ≡ c.in-Err.delta = search rules in
     off_grid (rules_in c.args.plan.now) s x cells acc holds c.in-Err.delta e
@@ -33,19 +35,23 @@ pub returns-then-session-from-clause-declined : goal.returns-then-session-from-c
 returns-then-session-from-clause-declined c = λ cells acc holds.
     let x = heard c.args.rtp.now c.args.payload.now in
     let s = c.args.session.now in
-    let e : nat_eq x.ssrc s.source ≡ true = same_number c.ssrc-got.result x.ssrc s.source c.ssrc-got.ensures c.if-got-session.false in
+    let e : nat_eq x.ssrc s.source ≡ true =
+    same_number c.ssrc-got.result x.ssrc s.source c.ssrc-got.ensures c.if-got-session.false in
     let k = ticks c.args.plan.now.profile.codec in
     let back : to_z w64 (of_z w64 c.shown.result) ≡ c.shown.result = search rules in
-    let back_last : to_z w64 (of_z w64 c.shown-then-session-from.result) ≡ c.shown-then-session-from.result = search rules in
+    let back_last : to_z w64 (of_z w64 c.shown-then-session-from.result) ≡ c.shown-then-session-from.result = search
+    rules in
     far_ahead (rules_in c.args.plan.now) s x cells acc holds c.in-Ok.place c.last_of-last.result _ _ e
     (ap (λ t. place_near k s.origin t (at s.horizon)) (sym c.timestamp.ensures) ∙ c.in-Ok.ensures.place)
-    c.last_of-last.ensures.last (omega (arith, c.from.ensures, c.if-session-from.true)) (back ∙ c.shown.ensures) (back_last ∙ c.shown-then-session-from.ensures)
+    c.last_of-last.ensures.last (omega (arith, c.from.ensures, c.if-session-from.true)) (back ∙ c.shown.ensures)
+    (back_last ∙ c.shown-then-session-from.ensures)
 
 pub returns-clause-seated : goal.returns-clause-seated
 returns-clause-seated c = λ cells acc holds.
     let x = heard c.args.rtp.now c.args.payload.now in
     let s = c.args.session.now in
-    let e : nat_eq x.ssrc s.source ≡ true = same_number c.ssrc-got.result x.ssrc s.source c.ssrc-got.ensures c.if-got-session.false in
+    let e : nat_eq x.ssrc s.source ≡ true =
+    same_number c.ssrc-got.result x.ssrc s.source c.ssrc-got.ensures c.if-got-session.false in
     let k = ticks c.args.plan.now.profile.codec in
     seated (rules_in c.args.plan.now) s x cells acc holds c.in-Ok.place c.last_of-last.result e
     (ap (λ t. place_near k s.origin t (at s.horizon)) (sym c.timestamp.ensures) ∙ c.in-Ok.ensures.place)

@@ -10,21 +10,28 @@ pub overflow_sub-result : goal.overflow_sub-result
 overflow_sub-result c =
     let v : Value = viewed c.args.payload.now in
     let n = c.args.plan.now.profile.channels in
-    let f : IsFitting c.args.plan.now v = fitting c.args.plan.now c.args.payload.now.profile v (facts c.args.plan.now c.requires.read.planned) c.requires.read.format c.frames.ensures.value in
-    let count : c.share_of-blocks.result ≡ length v.frames / n = c.share_of-blocks.ensures ∙ (λ i. c.frames.ensures.frames i / c.from.ensures i) in
+    let f : IsFitting c.args.plan.now v =
+    fitting c.args.plan.now c.args.payload.now.profile v (facts c.args.plan.now c.requires.read.planned)
+    c.requires.read.format c.frames.ensures.value in
+    let count : c.share_of-blocks.result ≡ length v.frames / n =
+    c.share_of-blocks.ensures ∙ (λ i. c.frames.ensures.frames i / c.from.ensures i) in
     let one = some_block n (length v.frames) f.some f.whole in
     omega (arith, one, count)
 
 pub returns-clause-fitting : goal.returns-clause-fitting
 returns-clause-fitting c =
-    fitting c.args.plan.now c.args.payload.now.profile (viewed c.args.payload.now) (facts c.args.plan.now c.requires.read.planned) c.requires.read.format c.frames.ensures.value
+    fitting c.args.plan.now c.args.payload.now.profile (viewed c.args.payload.now)
+    (facts c.args.plan.now c.requires.read.planned) c.requires.read.format c.frames.ensures.value
 
 pub returns-clause-fits : goal.returns-clause-fits
 returns-clause-fits c =
     let v : Value = viewed c.args.payload.now in
     let n = c.args.plan.now.profile.channels in
-    let f : IsFitting c.args.plan.now v = fitting c.args.plan.now c.args.payload.now.profile v (facts c.args.plan.now c.requires.read.planned) c.requires.read.format c.frames.ensures.value in
-    let count : c.share_of-blocks.result ≡ length v.frames / n = c.share_of-blocks.ensures ∙ (λ i. c.frames.ensures.frames i / c.from.ensures i) in
+    let f : IsFitting c.args.plan.now v =
+    fitting c.args.plan.now c.args.payload.now.profile v (facts c.args.plan.now c.requires.read.planned)
+    c.requires.read.format c.frames.ensures.value in
+    let count : c.share_of-blocks.result ≡ length v.frames / n =
+    c.share_of-blocks.ensures ∙ (λ i. c.frames.ensures.frames i / c.from.ensures i) in
     let fits = f.fits in
     let same : (length v.frames / n - 1) * v.stride ≡ (c.share_of-blocks.result - 1) * c.from-2.result =
     ap (λ k. (k - 1) * v.stride) (sym count)

@@ -5,4 +5,5 @@ use Rattle.amr_playout.proofs.verdict.seat.Goals as goal
 
 pub returns-in-Some-clause-reach : goal.returns-in-Some-clause-reach
 returns-in-Some-clause-reach c =
-    reach_of (rules_in c.args.plan.now) c.args.before.now c.in-Some.session (viewed c.args.payload.now) c.judge.result c.in-Some.is c.judge.ensures.last
+    reach_of (rules_in c.args.plan.now) c.args.before.now c.in-Some.session (viewed c.args.payload.now) c.judge.result
+    c.in-Some.is c.judge.ensures.last

@@ -15,7 +15,8 @@ put_held-requires g c =
     let n = c.args.plan.now.profile.channels in
     let wide = f.wide in
     let few = f.few in
-    let one : 1 * n ≤ c.args.plan.now.window * n = mul-le 1 n c.args.plan.now.window n (omega (arith, wide)) (omega arith) in
+    let one : 1 * n ≤ c.args.plan.now.window * n =
+    mul-le 1 n c.args.plan.now.window n (omega (arith, wide)) (omega arith) in
     record {
       ready = record {
         full = record { full = c.requires.ring.full ∙ sym c.requires.ring.capacity; valid = c.requires.ring.valid };
@@ -35,8 +36,11 @@ returns-in_err-put_held-clause-part g c =
     let n : ℕ = c.from-channels.result in
     let pass : ℕ = c.min-pass.result in
     on_err c.from_residual.result _
-    (subst (λ bs. GotPrefix g.B.BlockSink.whole g.B.BlockSink.part c.args.out.now bs c.put_held.new.out) (sym (plan_rows c.args.plan.now c.args.ring.now c.args.skip c.args.count pass c.from.result n c.requires.ring c.requires.skip c.from.ensures c.from-channels.ensures c.min-pass.ensures))
-    (GotPrefix-longer g.B.BlockSink.whole g.B.BlockSink.part c.args.out.now (rows n xs c.args.skip (pass - c.args.skip)) (replicate (c.args.count - pass) (replicate n no_data)) c.put_held.new.out
+    (subst (λ bs. GotPrefix g.B.BlockSink.whole g.B.BlockSink.part c.args.out.now bs c.put_held.new.out)
+    (sym (plan_rows c.args.plan.now c.args.ring.now c.args.skip c.args.count pass c.from.result n c.requires.ring
+    c.requires.skip c.from.ensures c.from-channels.ensures c.min-pass.ensures))
+    (GotPrefix-longer g.B.BlockSink.whole g.B.BlockSink.part c.args.out.now (rows n xs c.args.skip (pass - c.args.skip))
+    (replicate (c.args.count - pass) (replicate n no_data)) c.put_held.new.out
     c.in_err-put_held.ensures.part))
 
 pub returns-clause-items : goal.returns-clause-items
@@ -44,7 +48,8 @@ returns-clause-items g c =
     on_ok_then c.put_no_data.result _ _
     (λ _.
     c.in_ok-put_held.ensures.items
-    ∙ plan_slid c.args.plan.now c.args.ring.now c.args.count c.min-pass.result c.from.result c.from-channels.result c.requires.ring c.from.ensures c.from-channels.ensures c.min-pass.ensures)
+    ∙ plan_slid c.args.plan.now c.args.ring.now c.args.count c.min-pass.result c.from.result c.from-channels.result
+    c.requires.ring c.from.ensures c.from-channels.ensures c.min-pass.ensures)
     c.put_no_data.ensures.out
 
 pub returns-clause-out : goal.returns-clause-out
@@ -54,8 +59,11 @@ returns-clause-out g c =
     let pass : ℕ = c.min-pass.result in
     on_ok_then c.put_no_data.result _ _
     (λ got.
-    subst (λ bs. GotBlocks g.B.BlockSink.whole c.args.out.now bs c.put_no_data.new.out) (sym (plan_rows c.args.plan.now c.args.ring.now c.args.skip c.args.count pass c.from.result n c.requires.ring c.requires.skip c.from.ensures c.from-channels.ensures c.min-pass.ensures))
-    (GotBlocks-append g.B.BlockSink.whole c.args.out.now (rows n xs c.args.skip (pass - c.args.skip)) c.put_held.new.out (replicate (c.args.count - pass) (replicate n no_data)) c.put_no_data.new.out
+    subst (λ bs. GotBlocks g.B.BlockSink.whole c.args.out.now bs c.put_no_data.new.out)
+    (sym (plan_rows c.args.plan.now c.args.ring.now c.args.skip c.args.count pass c.from.result n c.requires.ring
+    c.requires.skip c.from.ensures c.from-channels.ensures c.min-pass.ensures))
+    (GotBlocks-append g.B.BlockSink.whole c.args.out.now (rows n xs c.args.skip (pass - c.args.skip)) c.put_held.new.out
+    (replicate (c.args.count - pass) (replicate n no_data)) c.put_no_data.new.out
     c.in_ok-put_held.ensures.out got))
     c.put_no_data.ensures.out
 
@@ -66,7 +74,10 @@ returns-clause-part g c =
     let pass : ℕ = c.min-pass.result in
     on_err_then c.put_no_data.result _ _
     (λ got.
-    subst (λ bs. GotPrefix g.B.BlockSink.whole g.B.BlockSink.part c.args.out.now bs c.put_no_data.new.out) (sym (plan_rows c.args.plan.now c.args.ring.now c.args.skip c.args.count pass c.from.result n c.requires.ring c.requires.skip c.from.ensures c.from-channels.ensures c.min-pass.ensures))
-    (GotPrefix-behind g.B.BlockSink.whole g.B.BlockSink.part c.args.out.now (rows n xs c.args.skip (pass - c.args.skip)) c.put_held.new.out (replicate (c.args.count - pass) (replicate n no_data)) c.put_no_data.new.out
+    subst (λ bs. GotPrefix g.B.BlockSink.whole g.B.BlockSink.part c.args.out.now bs c.put_no_data.new.out)
+    (sym (plan_rows c.args.plan.now c.args.ring.now c.args.skip c.args.count pass c.from.result n c.requires.ring
+    c.requires.skip c.from.ensures c.from-channels.ensures c.min-pass.ensures))
+    (GotPrefix-behind g.B.BlockSink.whole g.B.BlockSink.part c.args.out.now (rows n xs c.args.skip (pass - c.args.skip))
+    c.put_held.new.out (replicate (c.args.count - pass) (replicate n no_data)) c.put_no_data.new.out
     c.in_ok-put_held.ensures.out got))
     c.put_no_data.ensures.part

@@ -9,7 +9,8 @@ invariant-loop-at g l = record {
   full : IsFull l.codec l.ring;
   capacity : l.ring.capacity ≡ l.initial.ring.capacity;
   items : held_of l.ring.items ≡ slid (held_of l.initial.ring.items) (l.at * l.channels);
-  got : GotBlocks g.B.BlockSink.whole l.initial.out (rows l.channels (held_of l.initial.ring.items) l.skip (l.at - l.skip)) l.out;
+  got : GotBlocks g.B.BlockSink.whole l.initial.out
+      (rows l.channels (held_of l.initial.ring.items) l.skip (l.at - l.skip)) l.out;
   ready : IsTrue (g.B.BlockSink.ready l.out);
   codec : g.B.BlockSink.codec l.out ≡ l.codec;
   channels : g.B.BlockSink.channels l.out ≡ l.channels;

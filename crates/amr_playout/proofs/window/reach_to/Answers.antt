@@ -14,13 +14,20 @@ returns-in-None-clause-slid g c =
     let old = held_of c.args.ring.now.items in
     let wide = (facts c.args.plan.now c.requires.ready.ringed.planned).wide in
     let first = c.requires.last.0 c.in-None.is in
-    let same : (cs : List Copy) → ShowsBefore rules before old cs → out_at rules c.args.last cs ≡ out_before rules before cs =
+    let same : (cs : List Copy) → ShowsBefore rules before old cs
+    → out_at rules c.args.last cs ≡ out_before rules before cs =
     λ cs shows. none_goes rules before old cs c.args.last c.in-None.is wide shows in
     record {
       horizon = sym (ap (λ b. horizon_with b c.args.last) c.in-None.is);
       inside = (first, omega (arith, wide), omega arith);
       shows = λ cs shows. none_shows rules before old cs c.args.last c.in-None.is wide shows;
-      out = λ cs shows. record { blocks = []; got = refl; more_by = same cs shows ∙ sym (append-nil (out_before rules before cs)) };
+      out =
+          λ cs shows. record {
+            blocks = [];
+            got = refl;
+            more_by = same cs shows
+                ∙ sym (append-nil (out_before rules before cs));
+          };
       counted = λ cs shows. (let e = ap length (same cs shows) in omega (arith, e));
       rise = λ s e. (let no_session : None ≡ Some s = sym c.in-None.is ∙ e in absurd cc);
       none = λ e. refl;

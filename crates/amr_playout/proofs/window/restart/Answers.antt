@@ -14,9 +14,11 @@ use Rattle.spec_session.specs.Session.{Accepted, Rules}
 use Rattle.amr_playout.proofs.window.restart.Goals as goal
 
 -- the rest, to the end that the code computes
-rest_to : (rules : Rules) (s : Begun) (cells : List (Option Frame)) (acc : List Accepted) (end : ℕ) → end ≡ s.horizon + rules.window
+rest_to : (rules : Rules) (s : Begun) (cells : List (Option Frame)) (acc : List Accepted) (end : ℕ)
+    → end ≡ s.horizon + rules.window
     → Holds rules (Some s) cells acc → released_of rules (copies_of rules acc) ≡ out_at rules end (copies_of rules acc)
-rest_to rules s cells acc end is holds = rest_is rules s cells acc holds ∙ ap (λ h. out_at rules h (copies_of rules acc)) (sym is)
+rest_to rules s cells acc end is holds =
+    rest_is rules s cells acc holds ∙ ap (λ h. out_at rules h (copies_of rules acc)) (sym is)
 
 pub returns-in_err-slid-in-Some-clause-part : goal.returns-in_err-slid-in-Some-clause-part
 returns-in_err-slid-in-Some-clause-part g c =
@@ -25,10 +27,13 @@ returns-in_err-slid-in-Some-clause-part g c =
     let s : Begun = c.in-Some.session in
     on_err c.from_residual.result _ (λ acc holds.
     let kept : Holds rules (Some s) old acc = subst (λ b. Holds rules b old acc) c.in-Some.is holds in
-    let got = c.in_err-slid-in-Some.ensures.part (copies_of rules acc) (before_shows rules (Some s) old acc kept) in record {
+    let got =
+    c.in_err-slid-in-Some.ensures.part (copies_of rules acc) (before_shows rules (Some s) old acc kept) in record {
       blocks = got.blocks;
       got = got.got;
-      more_by = rest_to rules s old acc _ (ap (λ w. s.horizon + w) c.from.ensures) kept ∙ got.more_by ∙ ap (λ bs. bs ++ got.blocks) (sym (before_sent rules (Some s) old acc kept));
+      more_by =
+          rest_to rules s old acc _ (ap (λ w. s.horizon + w) c.from.ensures) kept ∙ got.more_by
+          ∙ ap (λ bs. bs ++ got.blocks) (sym (before_sent rules (Some s) old acc kept));
     })
 
 pub returns-in_ok-slid-in-Some-clause-over : goal.returns-in_ok-slid-in-Some-clause-over

@@ -11,11 +11,15 @@ use Rattle.amr_playout.proofs.window.slide.Goals as goal
 pub returns-in_err-advance-clause-part : goal.returns-in_err-advance-clause-part
 returns-in_err-advance-clause-part g c =
     let s = c.args.session.now in
-    let slides = slides_by c.args.plan.now s c.args.last c.from-window.result c.requires.ready.ringed.planned c.requires.ready.inside c.requires.last.0 c.from-window.ensures in
+    let slides =
+    slides_by c.args.plan.now s c.args.last c.from-window.result c.requires.ready.ringed.planned
+    c.requires.ready.inside c.requires.last.0 c.from-window.ensures in
     on_err c.from_residual.result _ (λ cs shows. record {
       blocks = _;
       got = c.in_err-advance.ensures.part;
-      more_by = slide_out (rules_in c.args.plan.now) s.horizon s.next c.args.last c.from-window.result c.args.plan.now.profile.channels (held_of c.args.ring.now.items) cs slides shows.0 shows.1;
+      more_by =
+          slide_out (rules_in c.args.plan.now) s.horizon s.next c.args.last c.from-window.result
+          c.args.plan.now.profile.channels (held_of c.args.ring.now.items) cs slides shows.0 shows.1;
     })
 
 pub returns-clause-slid : goal.returns-clause-slid
@@ -30,7 +34,9 @@ returns-clause-slid g c =
     let up = c.requires.last.0 in
     let f = facts c.args.plan.now c.requires.ready.ringed.planned in
     let wide = f.wide in let narrow = f.narrow in
-    let slides : IsSlide rules s.horizon s.next c.args.last w n = slides_by c.args.plan.now s c.args.last w c.requires.ready.ringed.planned c.requires.ready.inside up c.from-window.ensures in
+    let slides : IsSlide rules s.horizon s.next c.args.last w n =
+    slides_by c.args.plan.now s c.args.last w c.requires.ready.ringed.planned c.requires.ready.inside up
+    c.from-window.ensures in
     record {
       horizon = refl;
       inside = (
@@ -39,7 +45,8 @@ returns-clause-slid g c =
         omega (arith, c.later.ensures, c.from-window.ensures, wide, narrow, begun, up, high),
       );
       shows = λ cs shows.
-          slide_shows rules s.horizon s.next c.later.result c.args.last w n old (held_of c.advance.new.ring.items) cs slides shows.0
+          slide_shows rules s.horizon s.next c.later.result c.args.last w n old (held_of c.advance.new.ring.items) cs
+          slides shows.0
           c.later.ensures c.in_ok-advance.ensures.items shows.1;
       out = λ cs shows. record {
         blocks = _;
