@@ -32,7 +32,8 @@ told_at R got f f' plan plan' a b o n p e d g =
     (subst (λ t. R (got t) (got n) (f plan) (f' plan)) e g))
 
 -- what was done to a sink leaves it the same object, told of the sink that a caller has
-pub same_at : {O : Type 0} (same : O → O → Type 0) (beside : O → Option (List (List ℕ × List ℕ))) (a o : O) (w w' : StoreWriter O)
+pub same_at : {O : Type 0} (same : O → O → Type 0) (beside : O → Option (List (List ℕ × List ℕ))) (a o : O)
+    (w w' : StoreWriter O)
     → w.sink.now ≡ a → o ≡ w'.sink.now → SameSink beside same w w' → same a o × (beside o ≡ beside a)
 same_at same beside a o w w' before after s = (
   subst (same a) (sym after) (subst (λ t. same t w'.sink.now) before s.object),
@@ -59,7 +60,8 @@ refused got job v v' x a o w w' why plan unspent before after r =
       out = λ h stands.
           subst (λ g. Gained (got a) g (gone_for job h) (gone_for job (h ++ x ∷ []))) (sym nothing)
           (gained_none (got a) _ _
-          (subst (λ (p : Plan). gone_out (rules_in p) (h ++ x ∷ []) ≡ gone_out (rules_in p) h) plan (r.quiet h stands)));
+          (subst (λ (p : Plan). gone_out (rules_in p) (h ++ x ∷ []) ≡ gone_out (rules_in p) h) plan
+          (r.quiet h stands)));
       accepts = λ h stands.
           subst (λ (p : Plan). length (accepted (rules_in p) (h ++ x ∷ [])) ≡ length (accepted (rules_in p) h) + 0) plan
           (refuses (rules_in v.plan) h x why (r.verdict h stands));

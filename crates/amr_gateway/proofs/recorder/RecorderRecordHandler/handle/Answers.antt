@@ -7,10 +7,17 @@ use Rattle.amr_gateway.proofs.recorder.RecorderRecordHandler.handle.Goals as goa
 pub hear-requires-clause-ready : goal.hear-requires-clause-ready
 hear-requires-clause-ready g c =
     let ready = c.requires.ready in
-    record { unspent = ready.unspent; records = c.args.self.now.tally.packets; few = c.requires.few; bounded = ready.bounded }
+    record {
+      unspent = ready.unspent;
+      records = c.args.self.now.tally.packets;
+      few = c.requires.few;
+      bounded = ready.bounded;
+    }
 
 pub returns-in_err-heard-clause-failed : goal.returns-in_err-heard-clause-failed
-returns-in_err-heard-clause-failed g c = on_err c.from_residual.result _ (λ hs s. puts_part_by c.args.self.now.job _ _ _ _ (c.in_err-heard.ensures.part.out hs s.heard))
+returns-in_err-heard-clause-failed g c =
+    on_err c.from_residual.result _
+    (λ hs s. puts_part_by c.args.self.now.job _ _ _ _ (c.in_err-heard.ensures.part.out hs s.heard))
 
 pub returns-clause-done : goal.returns-clause-done
 returns-clause-done g c = λ hs s.
@@ -18,7 +25,9 @@ returns-clause-done g c = λ hs s.
     let heard = c.in_ok-heard.ensures.heard in (
       record {
         heard = heard.stands hs s.heard;
-        tallied = tallied_more (recording_of job) c.args.self.now.tally c.count.new.counts hs c.args.packet.now c.in_ok-heard.heard c.count.ensures.counted heard.told (heard.accepts hs s.heard) s.tallied;
+        tallied =
+            tallied_more (recording_of job) c.args.self.now.tally c.count.new.counts hs c.args.packet.now
+            c.in_ok-heard.heard c.count.ensures.counted heard.told (heard.accepts hs s.heard) s.tallied;
       },
       puts_by job _ _ _ _ (heard.out hs s.heard),
     )
