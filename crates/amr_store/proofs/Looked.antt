@@ -1,6 +1,6 @@
 -- What a reader sees of the octets held, while it reads on.
 use Rattle.std.proofs.Common.{◌≡◌, ℕ, ◌+◌, ◌^◌, ◌<◌, ◌≤◌, List, ◌++◌, ◌⊎◌, inl, inr, length, refl, sym, subst, ap, ◌∙◌, arith, length-append, append-nil}
-use Rattle.std.specs.Prelude.{Option, Some, None, Result, Ok, Err}
+use Rattle.std.specs.Prelude.{Option, Some, None, Result, Ok, Err, IsOk}
 use Rattle.std.specs.Io.KnownBytes.{Consumes, IsAtEnd, Keeps}
 use Rattle.std.proofs.KnownBytes.{Consumes-kept}
 use Rattle.amr_io.specs.declared.source.Source as source
@@ -17,6 +17,9 @@ use Rattle.amr_store.specs.declared.step.Found.TheVariants as found
 use Rattle.amr_store.specs.Sights.{BlockPart}
 use Rattle.amr_store.specs.Reading.{Exhausts, IsSameReader, given, held, taken_of}
 use Rattle.amr_store.specs.Seeking.{Ends, EndsBy, Looks, LooksBy, LooksPart, SeeksBy, Sought, len_of}
+
+abbrev pub served : Found → Result Found Failed
+served f = Ok f
 
 -- less than a block is short
 block_short : (codec : Codec) (channels : ℕ) (octets : List ℕ) (at : ℕ) → BlockPart codec channels octets at
@@ -66,6 +69,11 @@ ends_same old new octets at f p same g h =
     (subst (λ n. EndsBy old.phase old.codec n (given new) octets at f) same.channels
     (subst (λ c. EndsBy old.phase c new.channels (given new) octets at f) same.codec
     (subst (λ q. EndsBy q new.codec new.channels (given new) octets at f) p h)))
+
+-- an answer without a read is served
+pub quiet_ok : {P H L : Type 0} (f : Found) → (P × H) ⊎ L → (P × H × IsOk (served f)) ⊎ L
+quiet_ok f (inl e) = inl (e.0, e.1, refl)
+quiet_ok f (inr l) = inr l
 
 -- octets that were less than what is looked for, if any came since
 pub quiet_on : {P : Type 0} (old now : StoreReader) → (P × (held now ≡ held old)) ⊎ LooksPart old (held old)

@@ -1,6 +1,6 @@
 -- What a call of a reader did, from what was found and taken.
 use Rattle.std.proofs.Common.{◌≡◌, ◌⊎◌, inl, inr, ℕ, ◌+◌, ◌≤◌, true, false, List, [], ◌∷◌, ◌++◌, length, map, take, drop, sym, refl, subst, ap, ◌∙◌, append_assoc, arith}
-use Rattle.std.specs.Prelude.{Option, None, Result, Ok, Err}
+use Rattle.std.specs.Prelude.{Option, None, Result, Ok, Err, IsOk, Some}
 use Rattle.std.proofs.lemmas.List.{length-append, length-drop, length-take-le, take-append-drop}
 use Rattle.amr_io.specs.declared.source.Source as source
 use Rattle.amr_io.specs.declared.source.Failed.{Failed}
@@ -15,6 +15,8 @@ use Rattle.std.proofs.lemmas.Bool.{eqb-true}
 use Rattle.std.specs.List.{flat_map, AllByRecursion}
 use Rattle.spec_store.specs.StorageFile.{block_text, frame_text}
 use Rattle.spec_store.specs.StorageReading.{blocks_in, frame_in, is_unit, shown_refusal, store_refusal, unit_type}
+use Rattle.refusals.specs.declared.store.StoreRefusal.{StoreRefusal}
+use Rattle.store_laws.proofs.Showing.{blocks_stay}
 use Rattle.amr_store.specs.declared.reader.StoreReader.{StoreReader}
 use Rattle.amr_store.specs.declared.step.Phase.TheVariants as phase
 use Rattle.amr_store.specs.declared.step.Step.{Step}
@@ -23,7 +25,7 @@ use Rattle.amr_store.specs.declared.step.Sight.TheVariants as sight
 use Rattle.amr_store.specs.declared.step.Found.{Found}
 use Rattle.amr_store.specs.declared.step.Found.TheVariants as found
 use Rattle.amr_store.specs.Sights.{BlockEnds, BlockShows, HeaderShows, ReadsBlock}
-use Rattle.amr_store.specs.Reading.{Began, Begins, Counts, GoesOn, HasGiven, IsFresh, IsSameReader, RefusesBlock, RefusesHeader, ShowsNoHeader, ShowsNothing, WentOn, channels_of, given, held, limit_of, taken_of}
+use Rattle.amr_store.specs.Reading.{Began, Begins, Counts, GoesOn, HasGiven, HoldsNothing, IsFresh, IsSameReader, RefusesBlock, RefusesHeader, ShowsNoHeader, ShowsNothing, WentOn, channels_of, given, held, limit_of, taken_of}
 use Rattle.amr_store.specs.Seeking.{EndsBy, FillsCells, Looks, LooksBy, SeeksBy, Settles, Sought, len_of, phase_after, step_of}
 use Rattle.amr_store.proofs.Ahead.{block_ahead, cut_ahead, cut_no_header, header_bare, part_ahead, part_no_header}
 use Rattle.amr_store.proofs.Wrong.{wrong_ahead, wrong_header_more, wrong_more}
@@ -261,19 +263,58 @@ went_on s before after old mid new f r cells cells' k fills t size file g =
       taken = b.taken;
     }
 
--- nothing is read where the octets held show the answer
+-- nothing is read where the octets held show the answer, and it is served
+ok_step : (f : Result Found Failed) → IsOk f → IsOk (step_of f)
+ok_step (Ok (found.Whole n)) e = refl
+ok_step (Ok (found.Shown w)) e = refl
+ok_step (Ok (found.Cut w)) e = refl
+ok_step (Ok found.End) e = refl
+ok_step (Ok found.OverLimit) e = refl
+ok_step (Err x) e = absurd cc
+
+pub part_nothing : (r : StoreReader) (file : List ℕ) (at : ℕ) → HasGiven file r → Looks r (held r) (sight.Part at)
+    → HoldsNothing file r
+part_nothing r file at g h =
+    let part : BlockShows r.codec r.channels (length file) (held r) (sight.Part at) =
+    blocks None None [] r r r [] [] (sight.Part at) (length file) (held r) g.is_open.0 g.given_are h in
+    part_ahead r.codec r.channels file r.some g.is_file (held r) at part
+
 pub no_read : {S : Type 0} (s : source.Ghosts S) (before after : S) (old mid : StoreReader) (f : Result Found Failed)
-    → Sought s before after old f mid
-    → (file : List ℕ) → HasGiven file old
-    → (after ≡ before) ⊎ ShowsNothing old.codec old.channels file (file ++ held old)
-no_read s before after old mid f k file g =
+    (r : Result Step Failed) → Sought s before after old f mid → r ≡ step_of f
+    → (file : List ℕ) → HasGiven file old → ((after ≡ before) × IsOk r) ⊎ HoldsNothing file old
+no_read s before after old mid f r k is file g =
     elim k.quiet [
-      | inl e ↦ inl e.0
-      | inr p ↦ inr (
-          let h : BlockShows old.codec old.channels (length file) (held old) (sight.Part p.0) =
-          blocks None None [] old old old [] [] (sight.Part p.0) (length file) (held old) g.is_open.0 g.given_are p.1 in
-          part_ahead old.codec old.channels file old.some g.is_file (held old) p.0 h)
+      | inl e ↦ inl (e.0, subst IsOk (sym is) (ok_step f e.2))
+      | inr p ↦ inr (part_nothing old file p.0 g p.1)
     ]
+
+-- a block that is whole, or wrong, is an answer
+pub whole_something : (r : StoreReader) (file : List ℕ) (len : ℕ) → HasGiven file r → Looks r (held r) (sight.Whole len)
+    → HoldsNothing file r → ⊥
+whole_something r file len g h n =
+    let c = r.codec in
+    let whole : BlockShows c r.channels (length file) (held r) (sight.Whole len) =
+    blocks None None [] r r r [] [] (sight.Whole len) (length file) (held r) g.is_open.0 g.given_are h in
+    let block = take len (held r) in
+    let ahead = block_ahead c r.channels file r.some g.is_file block whole.units whole.are whole.count in
+    let stay = blocks_stay c r.channels (file ++ block) (drop len (held r)) r.some in
+    let join : (file ++ block) ++ drop len (held r) ≡ file ++ held r =
+    append_assoc file block (drop len (held r)) ∙ ap (λ l. file ++ l) (take-append-drop len (held r)) in
+    let all : length (blocks_in c r.channels file) ≡ length (blocks_in c r.channels (file ++ block) ++ stay.0) =
+    ap length (sym n.blocks ∙ ap (blocks_in c r.channels) (sym join) ∙ stay.1) in
+    let more = length-append (blocks_in c r.channels (file ++ block)) stay.0 in
+    let one = ap length ahead.1 ∙ length-append (blocks_in c r.channels file) (map (frame_in c) whole.units ∷ []) in
+    omega (arith, all, more, one)
+
+pub wrong_something : (r : StoreReader) (file : List ℕ) (w : StoreRefusal) → HasGiven file r → Looks r (held r) (sight.Refused w)
+    → HoldsNothing file r → ⊥
+wrong_something r file w g h n =
+    let wrong : BlockShows r.codec r.channels (length file) (held r) (sight.Refused w) =
+    blocks None None [] r r r [] [] (sight.Refused w) (length file) (held r) g.is_open.0 g.given_are h in
+    let refused = (wrong_ahead r.codec r.channels file r.some g.is_file (held r) w wrong).refused in
+    let shown = n.shown in
+    let z : None ≡ Some w = sym shown ∙ refused in
+    cc
 
 -- what was given rises
 counts_by : (old mid new : StoreReader) (more : List ℕ) (f : Result Found Failed) (cells cells' : List Cell)

@@ -96,7 +96,11 @@ pub record ShowsNothing (codec : Codec) (channels : ℕ) (front file : List ℕ)
   pub shown : shown_refusal codec channels file ≡ None
   pub blocks : blocks_in codec channels file ≡ blocks_in codec channels front
 
--- they are refused by a rule, and hold no block more
+-- the octets held behind these of the file show no answer to a call for the next block
+abbrev pub HoldsNothing : List ℕ → StoreReader → Type 0
+HoldsNothing file r = ShowsNothing r.codec r.channels file (file ++ held r)
+
+-- octets are refused by a rule, and hold no block more
 pub record RefusesBlock (codec : Codec) (channels : ℕ) (front : List ℕ)
     (rule : List ℕ → Option StoreRefusal) (w : StoreRefusal) (file : List ℕ) : Type 0 where
   pub refused : rule file ≡ Some w

@@ -1,6 +1,6 @@
 -- How a reader of storage files reads until the header, or the next block, is shown. The reader is
 -- ours.
-use Rattle.std.specs.Prelude.{◌≡◌, ◌⊎◌, ◌+◌, ℕ, List, [], ◌∷◌, ◌++◌, length, take, drop, Option, Result, Ok, Err}
+use Rattle.std.specs.Prelude.{◌≡◌, ◌⊎◌, ◌+◌, ℕ, List, [], ◌∷◌, ◌++◌, length, take, drop, Option, Result, IsOk, Ok, Err}
 use Rattle.std.specs.Io.KnownBytes.{Consumes}
 use Rattle.amr_io.specs.Fault.{HasCause}
 use Rattle.amr_io.specs.declared.gate.Gate.TheVariants as gate
@@ -77,7 +77,7 @@ Seeks left left' old r new = (more : List ℕ) × SeeksBy left left' more old r 
 pub record Sought {S : Type 0} (s : source.Ghosts S) (before after : S) (old : StoreReader)
     (r : Result Found Failed) (new : StoreReader) : Type 0 where
   pub seeks : Seeks (s.left before) (s.left after) old r new
-  pub quiet : ((after ≡ before) × (held new ≡ held old)) ⊎ LooksPart old (held old)
+  pub quiet : ((after ≡ before) × (held new ≡ held old) × IsOk r) ⊎ LooksPart old (held old)
   pub phase_is : new.phase ≡ old.phase
   pub same : IsSameReader old new
   pub cause : HasCause (s.faults before) (s.faults after) r

@@ -1,6 +1,6 @@
 // Storage files read block by block.
 
-ghost use Rattle.std.specs.Prelude.{◌≡◌, ◌⊎◌, ◌+◌, ◌≤◌, ◌<◌, ◌^◌, ◌++◌, List, Ok, length, ℕ, IfOk};
+ghost use Rattle.std.specs.Prelude.{◌≡◌, ◌⊎◌, ◌↔◌, ◌+◌, ◌≤◌, ◌<◌, ◌^◌, ◌++◌, List, Ok, IsOk, IsTrue, length, ℕ, IfOk};
 ghost use Rattle.amr_io.specs.Fault.{HasCause};
 ghost use Rattle.amr_io.specs.declared.gate.Gate.TheVariants as gate;
 
@@ -30,7 +30,7 @@ pub struct StoreReader {
 }
 
 impl StoreReader {
-    ghost use Rattle.amr_store.specs.Reading.{Began, Counts, HasEnded, HasGiven, IsFresh, IsLeft, IsUsable, ShowsNothing, WentOn, channels_of, codec_of, given, held, limit_of};
+    ghost use Rattle.amr_store.specs.Reading.{Began, Counts, HasEnded, HasGiven, HoldsNothing, IsFresh, IsLeft, IsUsable, WentOn, channels_of, codec_of, given, held, limit_of};
     ghost use Rattle.amr_store.specs.Telling.{TellsHeaderIn, TellsNextIn};
     ghost use Rattle.amr_store.specs.Seeking.{Ends, FillsCells, HasBlock, Looks, Settles, Sought, len_of};
     ghost use Rattle.amr_store.specs.declared.step.Sight.TheVariants as sight;
@@ -171,6 +171,18 @@ impl StoreReader {
         self.settle(found)
     }
 
+    /// Whether the next call for a block answers without a read, as long as the file didn't end.
+    pub fn holds_answer(&self) -> bool
+        ensures { (file : List ℕ) → HasGiven file self.now
+            → (IsTrue result ↔ (HoldsNothing file self.now → ⊥)) }
+    {
+        match self.look() {
+            Sight::Part { .. } => false,
+            Sight::Whole { .. } => true,
+            Sight::Refused(_) => true,
+        }
+    }
+
     /// Gives the next block in `cells`, one frame for each channel, or says why there is none.
     ///
     /// It reads only while the octets taken don't show the answer. `cells` is as it was after every
@@ -191,9 +203,8 @@ impl StoreReader {
             self.new }
         ensures left { IsLeft self.old result self.new }
         ensures counts { Counts self.old cells.old result cells.new self.new }
-        ensures no_read { (file : List ℕ) → HasGiven file self.old → (source.new ≡ source.old)
-            ⊎ ShowsNothing (codec_of self.old) (channels_of self.old) file
-            (file ++ held self.old) }
+        ensures no_read { (file : List ℕ) → HasGiven file self.old
+            → ((source.new ≡ source.old) × IsOk result) ⊎ HoldsNothing file self.old }
         ensures ended_again { HasEnded self.old → (result ≡ Ok Step.End)
             × (source.new ≡ source.old) }
         ensures cause { HasCause (S.faults source.old) (S.faults source.new) result }

@@ -158,3 +158,19 @@ fn a_read_that_fails_spends_the_reader(rt: HostRuntime) -> Result<(), Fail> {
     }
     Ok(())
 }
+
+#[test]
+fn what_is_held_needs_no_read(rt: HostRuntime) -> Result<(), Fail> {
+    // One read brings the header and two blocks.
+    let mut source = MemorySource::create(rt.alloc(), b"#!AMR\n||", 8, &[])?;
+    let mut reader = StoreReader::create(rt.alloc(), Codec::Amr, 1, 99)?;
+    let mut cells = [Cell::absent(); 1];
+    assert!(rt; !reader.holds_answer());
+    let Ok(Step::Ready) = reader.begin(&mut source) else {
+        panic!(rt; "the header is well");
+    };
+    assert!(rt; reader.holds_answer());
+    assert_eq!(rt; reader.next_block(&mut source, &mut cells), Ok(Step::Ready));
+    assert!(rt; reader.holds_answer());
+    Ok(())
+}

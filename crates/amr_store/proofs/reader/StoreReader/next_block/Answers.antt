@@ -16,7 +16,7 @@ returns-clause-counts g c =
 
 pub returns-clause-no_read : goal.returns-clause-no_read
 returns-clause-no_read g c =
-    no_read g.S.Source c.args.source.now c.seek-found.new.source c.args.self.now c.seek-found.new.self c.seek-found.result c.seek-found.ensures.sought
+    no_read g.S.Source c.args.source.now c.seek-found.new.source c.args.self.now c.seek-found.new.self c.seek-found.result c.settle.result c.seek-found.ensures.sought c.settle.ensures.settles.answer
 
 pub returns-clause-exact : goal.returns-clause-exact
 returns-clause-exact g c = λ front given.

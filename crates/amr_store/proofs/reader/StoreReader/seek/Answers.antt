@@ -3,7 +3,8 @@ use Rattle.std.proofs.KnownBytes.{Consumes-trans}
 use Rattle.amr_store.specs.declared.step.Sight.TheVariants as sight
 use Rattle.amr_store.specs.Reading.{held}
 use Rattle.amr_store.specs.Seeking.{Looks}
-use Rattle.amr_store.proofs.Looked.{end_sought, given_stays, looks_same, quiet_on}
+use Rattle.amr_store.specs.declared.step.Found.TheVariants as found
+use Rattle.amr_store.proofs.Looked.{end_sought, given_stays, looks_same, quiet_ok, quiet_on}
 use Rattle.amr_store.proofs.reader.StoreReader.seek.Goals as goal
 
 pub returns-in-Refused : goal.returns-in-Refused
@@ -14,7 +15,31 @@ returns-in-Refused g c =
     record {
       sought = record {
         seeks = (so_far.0, (so_far.1, looks_same c.args.self.now c.seeking.self (held c.seeking.self) _ kept.phase_is kept.same stays c.in-Refused.ensures), so_far.2, so_far.3);
-        quiet = kept.quiet;
+        quiet = quiet_ok (found.Shown c.in-Refused.why) kept.quiet;
+        phase_is = kept.phase_is;
+        same = kept.same;
+        cause = kept.faults;
+      };
+    }
+
+pub returns-in-Whole : goal.returns-in-Whole
+returns-in-Whole g c =
+    let kept = c.seeking.invariant in
+    let so_far = kept.so_far in
+    let stays = given_stays c.args.self.now c.seeking.self so_far.0 so_far.2 so_far.3 in
+    record {
+      sought = record {
+        seeks = (
+          so_far.0,
+          (
+            so_far.1,
+            looks_same c.args.self.now c.seeking.self (held c.seeking.self) _ kept.phase_is kept.same stays c.in-Whole.ensures,
+            kept.still,
+          ),
+          so_far.2,
+          so_far.3,
+        );
+        quiet = quiet_ok (found.Whole c.in-Whole.len) kept.quiet;
         phase_is = kept.phase_is;
         same = kept.same;
         cause = kept.faults;
