@@ -1,12 +1,14 @@
 -- What was gained, told of the sinks and the plan that a caller has.
-use Rattle.std.proofs.Common.{◌≡◌, ◌+◌, ◌++◌, [], ◌∷◌, ◌∙◌, ℕ, List, length, ap, false, sym, subst, Err, Option}
+use Rattle.std.proofs.Common.{◌≡◌, ◌+◌, ◌++◌, [], ◌∷◌, ◌∙◌, ℕ, List, length, ap, false, sym, subst, Err, Option, Result}
 use Rattle.amr_gateway.proofs.Bounds.{bounded_same}
 use Rattle.amr_gateway.proofs.Offered.{refuses}
 use Rattle.amr_gateway.proofs.Texts.{gained_none}
 use Rattle.amr_gateway.specs.Going.{IsBounded}
-use Rattle.amr_gateway.specs.Hearing.{Gained, Offers, gone_for}
+use Rattle.amr_gateway.specs.Hearing.{Gained, HearStep, Offers, gone_for}
 use Rattle.amr_gateway.specs.declared.heard.Heard.TheVariants.{NoPlace}
 use Rattle.amr_gateway.specs.declared.job.RecordJob.{RecordJob}
+use Rattle.amr_io.specs.Fault.{HasCause}
+use Rattle.amr_io.specs.declared.sink.Sink as sink
 use Rattle.amr_playout.specs.Offers.{Answers, Fails, Refuses}
 use Rattle.amr_playout.specs.Plans.{rules_in}
 use Rattle.amr_playout.specs.Receiver.{View}
@@ -31,14 +33,18 @@ told_at R got f f' plan plan' a b o n p e d g =
     (subst (λ t. R (got a) (got t) (f plan) (f' plan)) (sym d)
     (subst (λ t. R (got t) (got n) (f plan) (f' plan)) e g))
 
--- what was done to a sink leaves it the same object, told of the sink that a caller has
-pub same_at : {O : Type 0} (same : O → O → Type 0) (beside : O → Option (List (List ℕ × List ℕ))) (a o : O)
-    (w w' : StoreWriter O)
-    → w.sink.now ≡ a → o ≡ w'.sink.now → SameSink beside same w w' → same a o × (beside o ≡ beside a)
-same_at same beside a o w w' before after s = (
-  subst (same a) (sym after) (subst (λ t. same t w'.sink.now) before s.object),
-  ap beside after ∙ s.beside ∙ ap beside before,
-)
+-- a step of a receiver with a writer over a sink, told of the sink that a caller has
+pub step_at : {O A E : Type 0} (k : sink.Ghosts O) (v v' : View) (a o : O) (w w' : StoreWriter O)
+    (r : Result A E) → v'.plan ≡ v.plan → HasCause (k.faults a) (k.faults o) r
+    → w.sink.now ≡ a → o ≡ w'.sink.now → SameSink k.beside k.same w w' → HearStep k v v' a o r
+step_at k v v' a o w w' r plan cause before after s = record {
+  plan = plan;
+  step = record {
+    cause = cause;
+    beside = ap k.beside after ∙ s.beside ∙ ap k.beside before;
+    same = subst (k.same a) (sym after) (subst (λ t. k.same t w'.sink.now) before s.object);
+  };
+}
 
 -- what an answer says that is a refusal, and one that is a fault
 module _ {S : Type 0} (b : blocks.Ghosts S) (v v' : View) (x : Packet) (old new : S) (e : Offered) where
@@ -60,8 +66,7 @@ refused got job v v' x a o w w' why plan unspent before after r =
       out = λ h stands.
           subst (λ g. Gained (got a) g (gone_for job h) (gone_for job (h ++ x ∷ []))) (sym nothing)
           (gained_none (got a) _ _
-          (subst (λ (p : Plan). gone_out (rules_in p) (h ++ x ∷ []) ≡ gone_out (rules_in p) h) plan
-          (r.quiet h stands)));
+          (subst (λ (p : Plan). gone_out (rules_in p) (h ++ x ∷ []) ≡ gone_out (rules_in p) h) plan (r.quiet h stands)));
       accepts = λ h stands.
           subst (λ (p : Plan). length (accepted (rules_in p) (h ++ x ∷ [])) ≡ length (accepted (rules_in p) h) + 0) plan
           (refuses (rules_in v.plan) h x why (r.verdict h stands));

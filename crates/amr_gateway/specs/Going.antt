@@ -1,6 +1,6 @@
 -- What a recorder holds while records come: ours.
 use Rattle.std.specs.Prelude.{◌≡◌, ℕ, ◌+◌, ◌*◌, ◌^◌, ◌≤◌, ◌<◌, false, List, [], Option, Some, None}
-use Rattle.amr_gateway.specs.Jobs.{recording_of}
+use Rattle.amr_gateway.specs.Jobs.{IsServed, recording_of}
 use Rattle.amr_gateway.specs.Tallies.{IsSmall, Tallied}
 use Rattle.amr_gateway.specs.declared.job.RecordJob.{RecordJob}
 use Rattle.amr_playout.specs.Receiver.{StandsFor, View}
@@ -32,6 +32,11 @@ pub record TakesRecord (v : View) : Type 0 where
   pub records : ℕ
   pub few : records < 2 ^ 40
   pub bounded : IsBounded records v
+
+-- the job is served, and the receiver is one of its plan
+pub record IsServedBy (job : RecordJob) (v : View) : Type 0 where
+  pub served : IsServed job
+  pub plan : v.plan ≡ job.plan
 
 -- it took no record
 pub record IsNew (v : View) (c : Counts) : Type 0 where

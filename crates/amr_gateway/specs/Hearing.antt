@@ -1,5 +1,5 @@
 -- What a record that was heard changed: ours.
-use Rattle.std.specs.Prelude.{⊤, ◌≡◌, ℕ, ◌+◌, ◌++◌, Bool, true, false, List, [], ◌∷◌, length, Option, flat_map}
+use Rattle.std.specs.Prelude.{⊤, ◌≡◌, ℕ, ◌+◌, ◌++◌, Bool, true, false, List, [], ◌∷◌, length, Option, Result, flat_map}
 use Rattle.std.specs.Io.KnownBytes.{Appends}
 use Rattle.amr_frame.specs.Frames.{Frame}
 use Rattle.amr_gateway.specs.declared.heard.Heard.{Heard}
@@ -7,6 +7,8 @@ use Rattle.amr_gateway.specs.declared.heard.Heard.TheVariants.{Null, NoRtp, Othe
 use Rattle.amr_gateway.specs.Going.{IsBounded}
 use Rattle.amr_gateway.specs.Jobs.{recording_of}
 use Rattle.amr_gateway.specs.declared.job.RecordJob.{RecordJob}
+use Rattle.amr_io.specs.Steps.{SinkStep}
+use Rattle.amr_io.specs.declared.sink.Sink as sink
 use Rattle.amr_playout.specs.Plans.{rules_in}
 use Rattle.amr_playout.specs.Receiver.{StandsFor, View}
 use Rattle.spec_record.specs.RecordCounts.{is_no_payload, is_no_rtp, is_null, is_other_type}
@@ -133,3 +135,10 @@ pub record EndsSession (job : RecordJob) (v v' : View) (got got' : Option (List 
 pub record EndsPart (job : RecordJob) (v : View) (got got' : Option (List ℕ)) : Type 0 where
   pub out : (h : List Packet) → StandsFor v h
       → GainedPart got got' (gone_for job h) (released (rules_in job.plan) h)
+
+-- what stays through a call with a receiver that writes to a sink: the receiver's plan, and of the
+-- sink all that a step keeps
+pub record HearStep {S A E : Type 0} (k : sink.Ghosts S) (v v' : View) (old new : S)
+    (result : Result A E) : Type 0 where
+  pub plan : v'.plan ≡ v.plan
+  pub step : SinkStep k old new result

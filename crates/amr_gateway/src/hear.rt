@@ -1,9 +1,7 @@
 // Hearing a record: a packet of the session goes to the receiver, and any other record is passed over.
 ghost use Rattle.std.specs.Prelude.{◌≡◌, IfOk, OnErr, OnOk, false};
-ghost use Rattle.amr_gateway.specs.Going.{TakesRecord};
-ghost use Rattle.amr_gateway.specs.Hearing.{EndsPart, EndsSession, Hears, HearsPart, Offers, OffersPart};
-ghost use Rattle.amr_gateway.specs.Jobs.{IsServed};
-ghost use Rattle.amr_io.specs.Fault.{HasCause};
+ghost use Rattle.amr_gateway.specs.Going.{IsServedBy, TakesRecord};
+ghost use Rattle.amr_gateway.specs.Hearing.{EndsPart, EndsSession, HearStep, Hears, HearsPart, Offers, OffersPart};
 ghost use Rattle.amr_playout.specs.Heard.{heard as heard_as};
 ghost use Rattle.amr_toc.specs.Viewed.{format_of};
 ghost use Rattle.spec_session.specs.Packets.{is_asked as is_type_asked};
@@ -37,8 +35,7 @@ pub fn hear<O: Sink>(
     octets: &[u8],
     output: &mut O,
 ) -> Result<Heard, Failed>
-    requires served { IsServed job.now }
-    requires plan { receiver.old.plan ≡ job.now.plan }
+    requires served { IsServedBy job.now receiver.old }
     requires ready { TakesRecord receiver.old }
 
     ensures heard { IfOk result (Hears job.now receiver.old receiver.new octets.now
@@ -46,10 +43,7 @@ pub fn hear<O: Sink>(
     ensures part { OnErr result (HearsPart job.now receiver.old octets.now
         (O.got output.old) (O.got output.new)) }
 
-    ensures plan { receiver.new.plan ≡ receiver.old.plan }
-    ensures cause { HasCause (O.faults output.old) (O.faults output.new) result }
-    ensures beside { O.beside output.new ≡ O.beside output.old }
-    ensures same { O.same output.old output.new }
+    ensures step { HearStep O.Sink receiver.old receiver.new output.old output.new result }
 {
     if octets.is_empty() {
         return Ok(Heard::Null);
@@ -77,8 +71,7 @@ fn offer<O: Sink>(
     payload: &PayloadView<'_>,
     output: &mut O,
 ) -> Result<Heard, Failed>
-    requires served { IsServed job.now }
-    requires plan { receiver.old.plan ≡ job.now.plan }
+    requires served { IsServedBy job.now receiver.old }
     requires format { format_of payload.now ≡ job.now.plan.profile }
     requires ready { TakesRecord receiver.old }
 
@@ -87,9 +80,7 @@ fn offer<O: Sink>(
     ensures part { OnErr result (OffersPart job.now receiver.old
         (heard_as rtp.now payload.now) (O.got output.old) (O.got output.new)) }
 
-    ensures plan { receiver.new.plan ≡ receiver.old.plan }
-    ensures cause { HasCause (O.faults output.old) (O.faults output.new) result }
-    ensures same { O.same output.old output.new × (O.beside output.new ≡ O.beside output.old) }
+    ensures step { HearStep O.Sink receiver.old receiver.new output.old output.new result }
 {
     let profile = &job.plan.profile;
     let mut writer = StoreWriter::resume(profile.codec, profile.channels, output);
@@ -108,8 +99,7 @@ pub fn end_session<O: Sink>(
     receiver: &mut Receiver,
     output: &mut O,
 ) -> Result<(), Failed>
-    requires served { IsServed job.now }
-    requires plan { receiver.old.plan ≡ job.now.plan }
+    requires served { IsServedBy job.now receiver.old }
     requires unspent { receiver.old.spent ≡ false }
 
     ensures ended { OnOk result (EndsSession job.now receiver.old receiver.new
@@ -117,10 +107,7 @@ pub fn end_session<O: Sink>(
     ensures part { OnErr result (EndsPart job.now receiver.old
         (O.got output.old) (O.got output.new)) }
 
-    ensures plan { receiver.new.plan ≡ receiver.old.plan }
-    ensures cause { HasCause (O.faults output.old) (O.faults output.new) result }
-    ensures beside { O.beside output.new ≡ O.beside output.old }
-    ensures same { O.same output.old output.new }
+    ensures step { HearStep O.Sink receiver.old receiver.new output.old output.new result }
 {
     let profile = &job.plan.profile;
     let mut writer = StoreWriter::resume(profile.codec, profile.channels, output);

@@ -1,11 +1,7 @@
 // Recording a packet log as a storage file.
-ghost use Rattle.std.specs.Prelude.{◌≡◌, ◌≤◌, ◌≢◌, ◌^◌, []};
-ghost use Rattle.amr_gateway.specs.Going.{IsNew};
-ghost use Rattle.amr_gateway.specs.Jobs.{IsServed, recording_meaning, recording_of};
-ghost use Rattle.amr_gateway.specs.Tallies.{counted_in_all};
-ghost use Rattle.rtp_packet.specs.Reading.{IsFresh, limit_of};
+ghost use Rattle.std.specs.Prelude.{◌≡◌};
+ghost use Rattle.amr_gateway.specs.Jobs.{IsServed, recording_meaning};
 ghost use Rattle.run_report.specs.Lines.{no_counts};
-ghost use Rattle.spec_record.specs.RecordMeaning.{record_meaning};
 ghost use Rattle.spec_run.specs.Meanings.{Works, work_of};
 
 use crate::job::RecordJob;
@@ -50,37 +46,12 @@ pub fn record_log<I: Source, O: Sink>(
         return no_memory();
     };
     let mut recorder = Recorder::new(job, receiver);
-    let end = run_log(&mut recorder, &mut reader, &mut gather, input, output);
+    let mut sink = GatherSink::new(output, &mut gather);
+    let end = run_records(&mut recorder, &mut reader, input, &mut sink);
     RunReport {
         end,
         counts: recorder.counts(),
     }
-}
-
-/// Works off the records of a log.
-fn run_log<I: Source, O: Sink>(
-    recorder: &mut Recorder,
-    reader: &mut LogReader,
-    gather: &mut Gather,
-    input: &mut I,
-    output: &mut O,
-) -> RunEnd
-    requires new { IsNew recorder.old.receiver recorder.old.tally }
-    requires fresh { IsFresh reader.old }
-    requires limit { limit_of reader.old ≤ 2 ^ 40 }
-    requires empty { gather.old.waiting ≡ [] }
-
-    ensures works { Works (record_meaning (recording_of recorder.old.job) (limit_of reader.old))
-        (work_of I.Source O.Sink input.old input.new output.old output.new (record {
-          end = result;
-          counts = counted_in_all recorder.new.tally recorder.new.receiver.counts;
-        })) }
-    ensures never_memory { result ≢ RunEnd.OutOfMemory }
-    ensures beside { O.beside output.new ≡ O.beside output.old }
-    ensures same { O.same output.old output.new }
-{
-    let mut sink = GatherSink::new(output, gather);
-    run_records(recorder, reader, input, &mut sink)
 }
 
 /// The report of a run for which there was no memory.

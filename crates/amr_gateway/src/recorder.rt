@@ -2,8 +2,8 @@
 ghost use Rattle.std.specs.Prelude.{◌≡◌};
 ghost use Rattle.std.proofs.Props.{props};
 ghost use Rattle.session_laws.proofs.Recordings.{early_front, file_front};
-ghost use Rattle.amr_gateway.specs.Going.{IsGoing, IsNew, Stands};
-ghost use Rattle.amr_gateway.specs.Jobs.{IsServed, recording_of};
+ghost use Rattle.amr_gateway.specs.Going.{IsGoing, IsNew, IsServedBy, Stands};
+ghost use Rattle.amr_gateway.specs.Jobs.{recording_of};
 ghost use Rattle.amr_gateway.specs.Tallies.{counted_in_all};
 ghost use Rattle.run_report.specs.Lines.{no_counts};
 ghost use Rattle.spec_record.specs.RecordMeaning.{records_job};
@@ -25,15 +25,13 @@ pub struct Recorder {
     pub receiver: Receiver,
     /// What was counted of the records; what the receiver counts isn't among it.
     pub tally: Counts,
-    ghost served: { IsServed job },
-    ghost plan: { receiver.plan ≡ job.plan },
+    ghost served: { IsServedBy job receiver },
 }
 
 impl Recorder {
     /// A recorder that took no record.
     pub fn new(job: &RecordJob, receiver: Receiver) -> Recorder
-        requires served { IsServed job.now }
-        requires plan { receiver.plan ≡ job.now.plan }
+        requires served { IsServedBy job.now receiver }
 
         ensures job { result.job ≡ job.now }
         ensures receiver { result.receiver ≡ receiver }

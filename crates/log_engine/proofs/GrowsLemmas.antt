@@ -1,6 +1,6 @@
 -- Octets that stay at the front.
 use Rattle.std.proofs.Common.{◌≡◌, ℕ, List, [], ◌∷◌, ◌++◌, sym, append-nil, append_assoc, take-append-drop, drop, ap, ◌∙◌}
-use Rattle.std.specs.Prelude.{Option, Result, Ok, Err, take, OnErr}
+use Rattle.std.specs.Prelude.{Option, Result, Ok, Err, take, OnErr, OnOk}
 use Rattle.std.proofs.lemmas.Result.{on_err_weaker}
 use Rattle.std.specs.Io.KnownBytes.{Appends, Keeps}
 use Rattle.std.proofs.KnownBytes.{Appends-nil, Appends-trans, Appends-kept}
@@ -88,11 +88,13 @@ pub flushed_step : {H B X E : Type 0} (h : handler.Ghosts H) (k : sink.Ghosts B)
     × Grows (k.got s0.output.now) (k.got s1.output.now)
     → k.beside s1.output.now ≡ k.beside s0.output.now → SameSink k s1 s2
     → HasCause (k.faults s0.output.now) (k.faults s2.output.now) result
+    → OnOk result (s2.gather.now.waiting ≡ [])
     → HandlerStep h k by by' s0 s2 result
-flushed_step h k law by by' s0 s1 s2 result job same beside flushed cause =
+flushed_step h k law by by' s0 s1 s2 result job same beside flushed cause empty =
     let put : SameSink k s0 s1 =
     record { reference = same.0; same = same.1; beside = beside; grows = same.2 } in
     record {
       steady = record { job = job; same = same_through k law s0 s1 s2 put flushed };
       cause = cause;
+      empty = empty;
     }

@@ -1,6 +1,6 @@
 -- Where a run stands, and what came of a turn of it. It is ours.
-use Rattle.std.specs.Prelude.{◌≡◌, ℕ, ◌+◌, ◌≤◌, ◌<◌, ◌^◌, List, [], ◌∷◌, ◌++◌, length, Option, Result, None, Some}
-use Rattle.std.specs.Io.KnownBytes.{Consumes, append_known}
+use Rattle.std.specs.Prelude.{◌≡◌, ℕ, ◌+◌, ◌≤◌, ◌<◌, ◌^◌, List, [], ◌∷◌, ◌++◌, length, Option, OnOk, Result, None, Some}
+use Rattle.std.specs.Io.KnownBytes.{Consumes, Keeps, append_known}
 use Rattle.amr_io.specs.Fault.{HasCause}
 use Rattle.amr_io.specs.declared.sink.Sink as sink
 use Rattle.amr_io.specs.declared.source.Source as source
@@ -44,17 +44,26 @@ pub record SameSink {B : Type 0} (k : sink.Ghosts B) (old new : GatherSink B) : 
   pub beside : k.beside new.output.now ≡ k.beside old.output.now
   pub grows : Grows (k.got old.output.now) (k.got new.output.now)
 
+-- what waits was written, or as much of it as went: all that was put out, that which waits
+-- included, is as before, and it failed only where the output's faults rose
+pub record WaitStep {B X E : Type 0} (k : sink.Ghosts B) (old new : GatherSink B)
+    (result : Result X E) : Type 0 where
+  pub kept : Keeps (logical k.got old) (logical k.got new)
+  pub cause : HasCause (k.faults old.output.now) (k.faults new.output.now) result
+  pub same : SameSink k old new
+
 -- the handler's job stays, and the sink is over the same output
 pub record Steady {H B : Type 0} (h : handler.Ghosts H) (k : sink.Ghosts B) (by by' : H)
     (old new : GatherSink B) : Type 0 where
   pub job : h.job by' ≡ h.job by
   pub same : SameSink k old new
 
--- the same, and it failed only where the output's faults rose
+-- the same, it failed only where the output's faults rose, and else nothing waits
 pub record HandlerStep {H B X E : Type 0} (h : handler.Ghosts H) (k : sink.Ghosts B) (by by' : H)
     (old new : GatherSink B) (result : Result X E) : Type 0 where
   pub steady : Steady h k by by' old new
   pub cause : HasCause (k.faults old.output.now) (k.faults new.output.now) result
+  pub empty : OnOk result (new.gather.now.waiting ≡ [])
 
 -- a run may begin: the handler hasn't begun, nothing was read, and nothing waits
 pub record AtStart {H A B : Type 0} (h : handler.Ghosts H) (first : State H A B) : Type 0 where

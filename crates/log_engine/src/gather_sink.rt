@@ -1,9 +1,10 @@
 // A sink that gathers what is written to it.
 ghost use Rattle.std.specs.Prelude.{◌≡◌, ℕ, ◌+◌, ◌-◌, ◌≤◌, ◌<◌, ◌++◌, [], List, length, drop, IfOk, OnOk, OnErr};
-ghost use Rattle.std.specs.Io.KnownBytes.{Keeps, append_known};
+ghost use Rattle.std.specs.Io.KnownBytes.{append_known};
 ghost use Rattle.amr_io.specs.Fault.{HasCause};
 ghost use Rattle.amr_io.specs.Told.{Writes};
 ghost use Rattle.log_engine.specs.Tray.{Tray, Grows};
+ghost use Rattle.log_engine.specs.Turns.{WaitStep};
 ghost use Rattle.std.proofs.Common.{refl, ◌∙◌};
 ghost use Rattle.std.proofs.KnownBytes.{Appends-nil, Appends-trans};
 
@@ -32,17 +33,9 @@ impl<'a, O: Sink> GatherSink<'a, O> {
     ///
     /// `Failed` comes only where the output's faults rose.
     pub fn flush(&mut self) -> Result<(), Failed>
-        ensures kept { Keeps
-            (append_known (O.got self.old.output.now) self.old.gather.now.waiting)
-            (append_known (O.got self.new.output.now) self.new.gather.now.waiting) }
+        ensures step { WaitStep O.Sink self.old self.new result }
         ensures empty { OnOk result
             ((self.new.gather.now.waiting ≡ []) × (self.new.gather.now.used ≡ 0)) }
-        ensures cause { HasCause
-            (O.faults self.old.output.now) (O.faults self.new.output.now) result }
-        ensures beside { O.beside self.new.output.now ≡ O.beside self.old.output.now }
-        ensures grows { Grows (O.got self.old.output.now) (O.got self.new.output.now) }
-        ensures same { O.same self.old.output.now self.new.output.now }
-        ensures same_reference { self.new.output.ghost_name ≡ self.old.output.ghost_name }
     {
         self.gather.flush(self.output)
     }

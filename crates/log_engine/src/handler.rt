@@ -1,8 +1,7 @@
 // What a command does with the records of a log.
 ghost use Rattle.std.specs.Prelude.{◌≡◌, ◌+◌, ◌<◌, ◌^◌, ℕ, List, [], ◌∷◌, ◌++◌, OnOk, OnErr};
 ghost use Rattle.std.specs.Io.KnownBytes.{Appends};
-ghost use Rattle.amr_io.specs.Steps.{SinkStep};
-ghost use Rattle.log_engine.specs.Puts.{Puts, PutsPart};
+ghost use Rattle.log_engine.specs.Puts.{CallStep, Puts, PutsPart};
 ghost use Rattle.run_report.specs.declared.counts.Counts.{Counts};
 ghost use Rattle.spec_run.specs.LogRuns.{RecordsJob};
 ghost use Rattle.spec_run.specs.Meanings.{IsPrefix};
@@ -42,9 +41,7 @@ pub trait RecordHandler {
             × Appends (O.got output.old) (O.got output.new) ((job self.old).early [])) }
         ensures failed { OnErr result
             (PutsPart (O.got output.old) (O.got output.new) [] ((job self.old).early [])) }
-        ensures kept { job self.new ≡ job self.old }
-
-        ensures step { SinkStep O.Sink output.old output.new result };
+        ensures step { CallStep O.Sink (job self.old) (job self.new) output.old output.new result };
 
     /// Handles the next record, of at most 2^40, and puts out what it brings.
     ///
@@ -60,9 +57,7 @@ pub trait RecordHandler {
         ensures failed { OnErr result ((hs : List (List ℕ)) → stands self.old hs
             → PutsPart (O.got output.old) (O.got output.new)
             ((job self.old).early hs) ((job self.old).early (hs ++ packet.now ∷ []))) }
-        ensures kept { job self.new ≡ job self.old }
-
-        ensures step { SinkStep O.Sink output.old output.new result };
+        ensures step { CallStep O.Sink (job self.old) (job self.new) output.old output.new result };
 
     /// Puts out the rest, after the last record. The counts are then those of the records.
     ///
@@ -76,9 +71,7 @@ pub trait RecordHandler {
         ensures failed { OnErr result ((hs : List (List ℕ)) → stands self.old hs
             → PutsPart (O.got output.old) (O.got output.new)
             ((job self.old).early hs) ((job self.old).whole hs)) }
-        ensures kept { job self.new ≡ job self.old }
-
-        ensures step { SinkStep O.Sink output.old output.new result };
+        ensures step { CallStep O.Sink (job self.old) (job self.new) output.old output.new result };
 
     /// More records put out more behind what was put out.
     ghost early_grows: { (s : Self) (hs more : List (List ℕ))

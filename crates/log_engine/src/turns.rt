@@ -1,9 +1,8 @@
 // The steps of a run: its beginning, a turn for each record, and its close.
 ghost use Rattle.std.specs.Prelude.{◌≡◌, ◌≢◌, ℕ, ◌+◌, ◌^◌, ◌<◌, ◌⊎◌, List, [], None, Some, OnOk, OnErr};
-ghost use Rattle.std.specs.Io.KnownBytes.{Appends, Keeps};
-ghost use Rattle.amr_io.specs.Fault.{HasCause};
+ghost use Rattle.std.specs.Io.KnownBytes.{Appends};
 ghost use Rattle.log_engine.specs.Puts.{Puts, PutsPart};
-ghost use Rattle.log_engine.specs.Turns.{HandlerStep, SameSink, Steady, TurnFaults, Turned, logical, sent, state};
+ghost use Rattle.log_engine.specs.Turns.{HandlerStep, Steady, TurnFaults, Turned, WaitStep, logical, sent, state};
 ghost use Rattle.rtp_packet.specs.Reading.{IsOpen, rest};
 ghost use Rattle.rtp_packet.specs.Record.{IsWhole};
 ghost use Rattle.spec_run.specs.Flows.{read_from};
@@ -25,23 +24,12 @@ pub(crate) fn begin<O: Sink, H: RecordHandler>(
     ensures done { OnOk result (H.stands handler.new []
         × Appends (logical O.got sink.old) (logical O.got sink.new)
         ((H.job handler.old).early [])) }
-    ensures empty { OnOk result (sink.new.gather.now.waiting ≡ []) }
     ensures failed { OnErr result (PutsPart (logical O.got sink.old) (logical O.got sink.new) []
         ((H.job handler.old).early [])) }
     ensures step { HandlerStep H.RecordHandler O.Sink handler.old handler.new sink.old sink.new
         result }
 {
     handler.begin(sink)?;
-    write_waiting(sink)
-}
-
-/// Writes what waits.
-fn write_waiting<O: Sink>(sink: &mut GatherSink<'_, O>) -> Result<(), Failed>
-    ensures kept { Keeps (logical O.got sink.old) (logical O.got sink.new) }
-    ensures empty { OnOk result (sink.new.gather.now.waiting ≡ []) }
-    ensures cause { HasCause (O.faults sink.old.output.now) (O.faults sink.new.output.now) result }
-    ensures same { SameSink O.Sink sink.old sink.new }
-{
     sink.flush()
 }
 
@@ -50,15 +38,13 @@ pub(crate) fn make_way<O: Sink>(
     reader: &LogReader,
     sink: &mut GatherSink<'_, O>,
 ) -> Result<(), Failed>
-    ensures kept { Keeps (logical O.got sink.old) (logical O.got sink.new) }
     ensures ready { OnOk result (IsWhole (rest reader.now) ⊎ (sink.new.gather.now.waiting ≡ [])) }
-    ensures cause { HasCause (O.faults sink.old.output.now) (O.faults sink.new.output.now) result }
-    ensures same { SameSink O.Sink sink.old sink.new }
+    ensures step { WaitStep O.Sink sink.old sink.new result }
 {
     if reader.holds_record() {
         return Ok(());
     }
-    write_waiting(sink)
+    sink.flush()
 }
 
 /// Handles the next record. Where none comes, or a write fails, it says how the run ends.
@@ -108,7 +94,6 @@ pub(crate) fn close<O: Sink, H: RecordHandler>(
         → (H.counts handler.new ≡ (H.job handler.old).counts hs)
         × Puts (logical O.got sink.old) (logical O.got sink.new)
         ((H.job handler.old).early hs) ((H.job handler.old).whole hs)) }
-    ensures empty { OnOk result (sink.new.gather.now.waiting ≡ []) }
     ensures failed { OnErr result ((hs : List (List ℕ)) → H.stands handler.old hs
         → PutsPart (logical O.got sink.old) (logical O.got sink.new)
         ((H.job handler.old).early hs) ((H.job handler.old).whole hs)) }
@@ -116,5 +101,5 @@ pub(crate) fn close<O: Sink, H: RecordHandler>(
         result }
 {
     handler.end(sink)?;
-    write_waiting(sink)
+    sink.flush()
 }

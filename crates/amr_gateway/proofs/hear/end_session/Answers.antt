@@ -10,18 +10,16 @@ use Rattle.spec_session.specs.Release.{gone_out, released}
 use Rattle.amr_gateway.proofs.hear.end_session.Goals as goal
 
 pub resume-writer-requires-clause-some : goal.resume-writer-requires-clause-some
-resume-writer-requires-clause-some g c = (channels_within c.args.job.now.plan c.requires.served.plan).0
+resume-writer-requires-clause-some g c = (channels_within c.args.job.now.plan c.requires.served.served.plan).0
 
 pub resume-writer-requires-clause-most : goal.resume-writer-requires-clause-most
-resume-writer-requires-clause-most g c = (channels_within c.args.job.now.plan c.requires.served.plan).1
+resume-writer-requires-clause-most g c = (channels_within c.args.job.now.plan c.requires.served.served.plan).1
 
 pub finish-requires-clause-sink : goal.finish-requires-clause-sink
 finish-requires-clause-sink g c = record {
-  ready =
-      takes_at c.args.job.now.plan c.resume-writer.result.stage c.resume-writer.result.channels c.requires.served.plan
-      c.resume-writer.ensures.stage c.resume-writer.ensures.format.1;
-  codec = c.resume-writer.ensures.format.0 ∙ sym (ap (λ (p : Plan). p.profile.codec) c.requires.plan);
-  channels = c.resume-writer.ensures.format.1 ∙ sym (ap (λ (p : Plan). p.profile.channels) c.requires.plan);
+  ready = takes_at c.args.job.now.plan c.resume-writer.result.stage c.resume-writer.result.channels c.requires.served.served.plan c.resume-writer.ensures.stage c.resume-writer.ensures.format.1;
+  codec = c.resume-writer.ensures.format.0 ∙ sym (ap (λ (p : Plan). p.profile.codec) c.requires.served.plan);
+  channels = c.resume-writer.ensures.format.1 ∙ sym (ap (λ (p : Plan). p.profile.channels) c.requires.served.plan);
 }
 
 pub returns-in-Ok-clause-ended : goal.returns-in-Ok-clause-ended
@@ -29,26 +27,19 @@ returns-in-Ok-clause-ended g c =
     let new = c.in-Ok.ensures.finished in
     record {
       out = λ h stands.
-          told_at Gained g.O.Sink.got (λ (p : Plan). gone_out (rules_in p) h) (λ (p : Plan). released (rules_in p) h)
-          c.args.receiver.now.plan c.args.job.now.plan _ _ _ _
-          c.requires.plan c.resume-writer.ensures.now
-          (c.output-1.given.1 (sym (c.finish.ensures.step.same.reference ∙ c.resume-writer.ensures.same_reference)))
-          (gained g.O.Sink.got g.O.Sink.beside g.O.Sink.same g.met.O.Sink.reflexive g.met.O.Sink.transitive
-          c.resume-writer.result c.finish.new.out _ _ (new.out h stands));
+          told_at Gained g.O.Sink.got (λ (p : Plan). gone_out (rules_in p) h) (λ (p : Plan). released (rules_in p) h) c.args.receiver.now.plan c.args.job.now.plan _ _ _ _
+          c.requires.served.plan c.resume-writer.ensures.now (c.output-1.given.1 (sym (c.finish.ensures.step.same.reference ∙ c.resume-writer.ensures.same_reference)))
+          (gained g.O.Sink.got g.O.Sink.beside g.O.Sink.same g.met.O.Sink.reflexive g.met.O.Sink.transitive c.resume-writer.result c.finish.new.out _ _ (new.out h stands));
       late = ap (λ k. k.late) new.counts;
       copies = ap (λ k. k.copies) new.counts;
       blocks = λ h stands.
-          subst (λ (p : Plan). c.finish.new.self.counts.blocks ≡ block_count (rules_in p) h) c.requires.plan
-          (new.all h stands);
+          subst (λ (p : Plan). c.finish.new.self.counts.blocks ≡ block_count (rules_in p) h) c.requires.served.plan (new.all h stands);
     }
 
 pub returns-in-Err-clause-part : goal.returns-in-Err-clause-part
 returns-in-Err-clause-part g c = record {
   out = λ h stands.
-      told_at GainedPart g.O.Sink.got (λ (p : Plan). gone_out (rules_in p) h) (λ (p : Plan). released (rules_in p) h)
-      c.args.receiver.now.plan c.args.job.now.plan _ _ _ _
-      c.requires.plan c.resume-writer.ensures.now
-      (c.output-1.given.1 (sym (c.finish.ensures.step.same.reference ∙ c.resume-writer.ensures.same_reference)))
-      (gained_part g.O.Sink.got g.O.Sink.beside g.O.Sink.same g.met.O.Sink.reflexive g.met.O.Sink.transitive
-      c.resume-writer.result c.finish.new.out _ _ (c.in-Err.ensures.part.part h stands));
+      told_at GainedPart g.O.Sink.got (λ (p : Plan). gone_out (rules_in p) h) (λ (p : Plan). released (rules_in p) h) c.args.receiver.now.plan c.args.job.now.plan _ _ _ _
+      c.requires.served.plan c.resume-writer.ensures.now (c.output-1.given.1 (sym (c.finish.ensures.step.same.reference ∙ c.resume-writer.ensures.same_reference)))
+      (gained_part g.O.Sink.got g.O.Sink.beside g.O.Sink.same g.met.O.Sink.reflexive g.met.O.Sink.transitive c.resume-writer.result c.finish.new.out _ _ (c.in-Err.ensures.part.part h stands));
 }

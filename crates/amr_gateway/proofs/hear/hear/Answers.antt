@@ -2,9 +2,13 @@ use Rattle.std.proofs.Common.{◌≡◌, ℕ, List, [], ◌∷◌, length, refl,
 use Rattle.amr_gateway.proofs.HeardRecords.{packet_heard, packet_part, passed}
 use Rattle.amr_gateway.proofs.Passing.{no_payload_met, no_rtp_met, null_met, other_type_met, packet_is, packet_met, said_by}
 use Rattle.amr_gateway.proofs.Plans.{format_valid}
-use Rattle.amr_gateway.specs.Hearing.{Meets}
+use Rattle.amr_gateway.specs.Hearing.{HearStep, Meets}
 use Rattle.amr_gateway.specs.Jobs.{recording_of}
 use Rattle.amr_gateway.specs.declared.heard.Heard.TheVariants.{Null, NoRtp, OtherType, NoPayload}
+use Rattle.amr_gateway.specs.declared.heard.Heard.{Heard}
+use Rattle.amr_io.specs.declared.sink.Sink as sink
+use Rattle.amr_io.specs.declared.source.Failed.{Failed}
+use Rattle.amr_playout.specs.Receiver.{View}
 use Rattle.amr_toc.specs.Viewed.{viewed}
 use Rattle.rtp_packet.specs.View.{packet}
 use Rattle.spec_payload.specs.Reading.{payload_refusal, read_as}
@@ -20,6 +24,10 @@ no_octets (o ∷ octets) e = absurd cc
 some_octets : (octets : List ℕ) → (length octets ≡ 0 → ⊥) → is_null octets ≡ false
 some_octets [] n = absurd (n refl)
 some_octets (o ∷ octets) n = refl
+
+-- nothing was done to the receiver and the sink
+still : {O : Type 0} (k : sink.Ghosts O) (law : (o : O) → k.same o o) (v : View) (o : O) (heard : Heard) → HearStep {E = Failed} k v v o o (Ok heard)
+still k law v o heard = record { plan = refl; step = record { cause = refl; beside = refl; same = law o } }
 
 -- a record of no octets
 null : (g : Over) (c : goal.Then-is_empty g) → Meets (recording_of c.args.job.now) c.args.octets.now true false false false 0
@@ -39,8 +47,8 @@ returns-in_default-clause-heard g c =
     let met = no_rtp g c in
     passed c.args.job.now c.args.receiver.now c.args.octets.now _ NoRtp c.requires.ready.unspent refl met met.packets_are
 
-pub returns-in_default-clause-same : goal.returns-in_default-clause-same
-returns-in_default-clause-same g c = g.met.O.Sink.reflexive c.args.output.now
+pub returns-in_default-clause-step : goal.returns-in_default-clause-step
+returns-in_default-clause-step g c = still g.O.Sink g.met.O.Sink.reflexive c.args.receiver.now c.args.output.now _
 
 -- a packet of another type
 other_type : (g : Over) (c : goal.Then-not-is_asked g) → Meets (recording_of c.args.job.now) c.args.octets.now false false true false 0
@@ -53,11 +61,11 @@ returns-then-not-is_asked-clause-heard g c =
     let met = other_type g c in
     passed c.args.job.now c.args.receiver.now c.args.octets.now _ OtherType c.requires.ready.unspent refl met met.packets_are
 
-pub returns-then-not-is_asked-clause-same : goal.returns-then-not-is_asked-clause-same
-returns-then-not-is_asked-clause-same g c = g.met.O.Sink.reflexive c.args.output.now
+pub returns-then-not-is_asked-clause-step : goal.returns-then-not-is_asked-clause-step
+returns-then-not-is_asked-clause-step g c = still g.O.Sink g.met.O.Sink.reflexive c.args.receiver.now c.args.output.now _
 
 pub read_payload-requires : goal.read_payload-requires
-read_payload-requires g c = format_valid c.args.job.now.plan c.requires.served.plan
+read_payload-requires g c = format_valid c.args.job.now.plan c.requires.served.served.plan
 
 -- a packet whose payload is none of the format
 no_payload : (g : Over) (c : goal.In_default-read_payload g) → Meets (recording_of c.args.job.now) c.args.octets.now false false false true 0
@@ -71,8 +79,8 @@ returns-in_default-read_payload-clause-heard g c =
     let met = no_payload g c in
     passed c.args.job.now c.args.receiver.now c.args.octets.now _ NoPayload c.requires.ready.unspent refl met met.packets_are
 
-pub returns-in_default-read_payload-clause-same : goal.returns-in_default-read_payload-clause-same
-returns-in_default-read_payload-clause-same g c = g.met.O.Sink.reflexive c.args.output.now
+pub returns-in_default-read_payload-clause-step : goal.returns-in_default-read_payload-clause-step
+returns-in_default-read_payload-clause-step g c = still g.O.Sink g.met.O.Sink.reflexive c.args.receiver.now c.args.output.now _
 
 -- a packet of the session
 value : (g : Over) (c : goal.After-offer g) → read_as c.args.job.now.plan.profile (packet c.in-Ok.rtp).payload ≡ Ok (viewed c.in-Ok-read_payload.payload)

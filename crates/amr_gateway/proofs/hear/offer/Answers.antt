@@ -1,6 +1,6 @@
-use Rattle.std.proofs.Common.{◌≡◌, ◌+◌, [], ◌∷◌, ◌++◌, length, sym, ap, ◌∙◌, subst, arith}
+use Rattle.std.proofs.Common.{◌≡◌, ◌+◌, [], ◌∷◌, ◌++◌, length, sym, ap, ◌∙◌, subst, arith, rules}
 use Rattle.amr_gateway.proofs.Bounds.{bounded_more, takes_packets}
-use Rattle.amr_gateway.proofs.Carried.{fault_at, refusal_at, refused, same_at, told_at}
+use Rattle.amr_gateway.proofs.Carried.{fault_at, refusal_at, refused, step_at, told_at}
 use Rattle.amr_gateway.proofs.Offered.{accepts}
 use Rattle.amr_gateway.proofs.Plans.{channels_within, takes_at}
 use Rattle.amr_gateway.proofs.Texts.{gained, gained_part}
@@ -14,18 +14,16 @@ use Rattle.spec_session.specs.Session.{accepted}
 use Rattle.amr_gateway.proofs.hear.offer.Goals as goal
 
 pub resume-writer-requires-clause-some : goal.resume-writer-requires-clause-some
-resume-writer-requires-clause-some g c = (channels_within c.args.job.now.plan c.requires.served.plan).0
+resume-writer-requires-clause-some g c = (channels_within c.args.job.now.plan c.requires.served.served.plan).0
 
 pub resume-writer-requires-clause-most : goal.resume-writer-requires-clause-most
-resume-writer-requires-clause-most g c = (channels_within c.args.job.now.plan c.requires.served.plan).1
+resume-writer-requires-clause-most g c = (channels_within c.args.job.now.plan c.requires.served.served.plan).1
 
 pub offer-requires-clause-sink : goal.offer-requires-clause-sink
 offer-requires-clause-sink g c = record {
-  ready =
-      takes_at c.args.job.now.plan c.resume-writer.result.stage c.resume-writer.result.channels c.requires.served.plan
-      c.resume-writer.ensures.stage c.resume-writer.ensures.format.1;
-  codec = c.resume-writer.ensures.format.0 ∙ sym (ap (λ (p : Plan). p.profile.codec) c.requires.plan);
-  channels = c.resume-writer.ensures.format.1 ∙ sym (ap (λ (p : Plan). p.profile.channels) c.requires.plan);
+  ready = takes_at c.args.job.now.plan c.resume-writer.result.stage c.resume-writer.result.channels c.requires.served.served.plan c.resume-writer.ensures.stage c.resume-writer.ensures.format.1;
+  codec = c.resume-writer.ensures.format.0 ∙ sym (ap (λ (p : Plan). p.profile.codec) c.requires.served.plan);
+  channels = c.resume-writer.ensures.format.1 ∙ sym (ap (λ (p : Plan). p.profile.channels) c.requires.served.plan);
 }
 
 pub offer-requires-clause-ready : goal.offer-requires-clause-ready
@@ -43,85 +41,61 @@ returns-in-Ok-clause-offered g c =
       of_session = tt;
       stands = new.stands;
       out = λ h stands.
-          told_at Gained g.O.Sink.got (λ (p : Plan). gone_out (rules_in p) h)
-          (λ (p : Plan). gone_out (rules_in p) (h ++ x ∷ [])) v.plan c.args.job.now.plan _ _ _ _
-          c.requires.plan c.resume-writer.ensures.now
-          (c.output-1.given.1 (sym (c.offer.ensures.same.reference ∙ c.resume-writer.ensures.same_reference)))
-          (gained g.O.Sink.got g.O.Sink.beside g.O.Sink.same g.met.O.Sink.reflexive g.met.O.Sink.transitive
-          c.resume-writer.result c.offer.new.out _ _ (new.out h stands));
+          told_at Gained g.O.Sink.got (λ (p : Plan). gone_out (rules_in p) h) (λ (p : Plan). gone_out (rules_in p) (h ++ x ∷ [])) v.plan c.args.job.now.plan _ _ _ _
+          c.requires.served.plan c.resume-writer.ensures.now (c.output-1.given.1 (sym (c.offer.ensures.same.reference ∙ c.resume-writer.ensures.same_reference)))
+          (gained g.O.Sink.got g.O.Sink.beside g.O.Sink.same g.met.O.Sink.reflexive g.met.O.Sink.transitive c.resume-writer.result c.offer.new.out _ _ (new.out h stands));
       accepts = λ h stands.
-          subst (λ (p : Plan). length (accepted (rules_in p) (h ++ x ∷ [])) ≡ length (accepted (rules_in p) h) + 1)
-          c.requires.plan
+          subst (λ (p : Plan). length (accepted (rules_in p) (h ++ x ∷ [])) ≡ length (accepted (rules_in p) h) + 1) c.requires.served.plan
           (accepts (rules_in v.plan) h x (new.verdict h stands).0 (new.verdict h stands).1);
       on = record {
         unspent = new.unspent;
         bounded = λ n b.
             bounded_more n v c.offer.new.self c.in-Ok.field-0.late c.in-Ok.field-0.copies c.in-Ok.field-0.released
-            (subst IsPlan (sym c.requires.plan) c.requires.served.plan) new.grows new.few new.counts b;
+            (subst IsPlan (sym c.requires.served.plan) c.requires.served.served.plan) new.grows new.few new.counts b;
       };
     }
 
 pub returns-in-Err-BlockFault-clause-part : goal.returns-in-Err-BlockFault-clause-part
 returns-in-Err-BlockFault-clause-part g c =
-    let failed =
-    fault_at _ _ _ _ _ _ c.in-Err-BlockFault.field-0 c.in-Err-BlockFault.field-0-is
-    c.in-Err-BlockFault.ensures.answer in
+    let failed = fault_at _ _ _ _ _ _ c.in-Err-BlockFault.field-0 c.in-Err-BlockFault.field-0-is c.in-Err-BlockFault.ensures.answer in
     record {
       out = λ h stands.
           told_at GainedPart g.O.Sink.got (λ (p : Plan). gone_out (rules_in p) h)
-          (λ (p : Plan). gone_out (rules_in p) (h ++ heard c.args.rtp.now c.args.payload.now ∷ []))
-          c.args.receiver.now.plan c.args.job.now.plan _ _ _ _
-          c.requires.plan c.resume-writer.ensures.now
-          (c.output-1.given.1 (sym (c.offer.ensures.same.reference ∙ c.resume-writer.ensures.same_reference)))
-          (gained_part g.O.Sink.got g.O.Sink.beside g.O.Sink.same g.met.O.Sink.reflexive g.met.O.Sink.transitive
-          c.resume-writer.result c.offer.new.out _ _ (failed.part h stands));
+          (λ (p : Plan). gone_out (rules_in p) (h ++ heard c.args.rtp.now c.args.payload.now ∷ [])) c.args.receiver.now.plan c.args.job.now.plan _ _ _ _
+          c.requires.served.plan c.resume-writer.ensures.now (c.output-1.given.1 (sym (c.offer.ensures.same.reference ∙ c.resume-writer.ensures.same_reference)))
+          (gained_part g.O.Sink.got g.O.Sink.beside g.O.Sink.same g.met.O.Sink.reflexive g.met.O.Sink.transitive c.resume-writer.result c.offer.new.out _ _ (failed.part h stands));
     }
-
-pub returns-in-Err-BlockFault-clause-cause : goal.returns-in-Err-BlockFault-clause-cause
-returns-in-Err-BlockFault-clause-cause g c =
-    let failed =
-    fault_at _ _ _ _ _ _ c.in-Err-BlockFault.field-0 c.in-Err-BlockFault.field-0-is
-    c.in-Err-BlockFault.ensures.answer in
-    subst (λ t. Rose (g.O.Sink.faults c.args.output.now) (g.O.Sink.faults t))
-    (sym (c.output-1.given.1 (sym (c.offer.ensures.same.reference ∙ c.resume-writer.ensures.same_reference))))
-    (subst (λ t. Rose (g.O.Sink.faults t) (g.O.Sink.faults c.offer.new.out.sink.now)) c.resume-writer.ensures.now
-    failed.step.cause)
 
 pub returns-in-Err-Refused-clause-offered : goal.returns-in-Err-Refused-clause-offered
 returns-in-Err-Refused-clause-offered g c =
-    refused g.O.Sink.got c.args.job.now c.args.receiver.now c.offer.new.self (heard c.args.rtp.now c.args.payload.now)
-    c.args.output.now _
-    c.resume-writer.result c.offer.new.out _ c.requires.plan c.requires.ready.unspent
-    c.resume-writer.ensures.now
-    (c.output-1.given.1 (sym (c.offer.ensures.same.reference ∙ c.resume-writer.ensures.same_reference)))
+    refused g.O.Sink.got c.args.job.now c.args.receiver.now c.offer.new.self (heard c.args.rtp.now c.args.payload.now) c.args.output.now _
+    c.resume-writer.result c.offer.new.out _ c.requires.served.plan c.requires.ready.unspent
+    c.resume-writer.ensures.now (c.output-1.given.1 (sym (c.offer.ensures.same.reference ∙ c.resume-writer.ensures.same_reference)))
     (refusal_at _ _ _ _ _ _ c.in-Err-Refused.field-0 _ c.in-Err-Refused.field-0-is c.in-Err-Refused.ensures.answer)
 
-pub returns-in-Ok-clause-same : goal.returns-in-Ok-clause-same
-returns-in-Ok-clause-same g c =
-    same_at g.O.Sink.same g.O.Sink.beside c.args.output.now _ c.resume-writer.result c.offer.new.out
-    c.resume-writer.ensures.now
-    (c.output-1.given.1 (sym (c.offer.ensures.same.reference ∙ c.resume-writer.ensures.same_reference)))
-    c.offer.ensures.same
+pub returns-in-Ok-clause-step : goal.returns-in-Ok-clause-step
+returns-in-Ok-clause-step g c =
+    step_at g.O.Sink c.args.receiver.now c.offer.new.self c.args.output.now _ c.resume-writer.result c.offer.new.out _
+    (search rules)
+    (ap g.O.Sink.faults (c.output-1.given.1 (sym (c.offer.ensures.same.reference ∙ c.resume-writer.ensures.same_reference))) ∙ c.in-Ok.ensures.answer.step.cause
+    ∙ ap g.O.Sink.faults c.resume-writer.ensures.now)
+    c.resume-writer.ensures.now (c.output-1.given.1 (sym (c.offer.ensures.same.reference ∙ c.resume-writer.ensures.same_reference))) c.offer.ensures.same
 
-pub returns-in-Err-Refused-clause-same : goal.returns-in-Err-Refused-clause-same
-returns-in-Err-Refused-clause-same g c =
-    same_at g.O.Sink.same g.O.Sink.beside c.args.output.now _ c.resume-writer.result c.offer.new.out
-    c.resume-writer.ensures.now
-    (c.output-1.given.1 (sym (c.offer.ensures.same.reference ∙ c.resume-writer.ensures.same_reference)))
-    c.offer.ensures.same
+pub returns-in-Err-Refused-clause-step : goal.returns-in-Err-Refused-clause-step
+returns-in-Err-Refused-clause-step g c =
+    let r = refusal_at _ _ _ _ _ _ c.in-Err-Refused.field-0 _ c.in-Err-Refused.field-0-is c.in-Err-Refused.ensures.answer in
+    step_at g.O.Sink c.args.receiver.now c.offer.new.self c.args.output.now _ c.resume-writer.result c.offer.new.out _
+    (search rules)
+    (ap g.O.Sink.faults
+    ((c.output-1.given.1 (sym (c.offer.ensures.same.reference ∙ c.resume-writer.ensures.same_reference))) ∙ ap (λ u. u.sink.now) r.sink
+    ∙ c.resume-writer.ensures.now))
+    c.resume-writer.ensures.now (c.output-1.given.1 (sym (c.offer.ensures.same.reference ∙ c.resume-writer.ensures.same_reference))) c.offer.ensures.same
 
-pub returns-in-Err-BlockFault-clause-same : goal.returns-in-Err-BlockFault-clause-same
-returns-in-Err-BlockFault-clause-same g c =
-    same_at g.O.Sink.same g.O.Sink.beside c.args.output.now _ c.resume-writer.result c.offer.new.out
-    c.resume-writer.ensures.now
-    (c.output-1.given.1 (sym (c.offer.ensures.same.reference ∙ c.resume-writer.ensures.same_reference)))
-    c.offer.ensures.same
-
-pub returns-in-Err-Refused-clause-cause : goal.returns-in-Err-Refused-clause-cause
-returns-in-Err-Refused-clause-cause g c =
-    let r =
-    refusal_at _ _ _ _ _ _ c.in-Err-Refused.field-0 _ c.in-Err-Refused.field-0-is c.in-Err-Refused.ensures.answer in
-    ap g.O.Sink.faults
-    ((c.output-1.given.1 (sym (c.offer.ensures.same.reference ∙ c.resume-writer.ensures.same_reference)))
-    ∙ ap (λ u. u.sink.now) r.sink
-    ∙ c.resume-writer.ensures.now)
+pub returns-in-Err-BlockFault-clause-step : goal.returns-in-Err-BlockFault-clause-step
+returns-in-Err-BlockFault-clause-step g c =
+    let failed = fault_at _ _ _ _ _ _ c.in-Err-BlockFault.field-0 c.in-Err-BlockFault.field-0-is c.in-Err-BlockFault.ensures.answer in
+    step_at g.O.Sink c.args.receiver.now c.offer.new.self c.args.output.now _ c.resume-writer.result c.offer.new.out _
+    (search rules)
+    (subst (λ t. Rose (g.O.Sink.faults c.args.output.now) (g.O.Sink.faults t)) (sym (c.output-1.given.1 (sym (c.offer.ensures.same.reference ∙ c.resume-writer.ensures.same_reference))))
+    (subst (λ t. Rose (g.O.Sink.faults t) (g.O.Sink.faults c.offer.new.out.sink.now)) c.resume-writer.ensures.now failed.step.cause))
+    c.resume-writer.ensures.now (c.output-1.given.1 (sym (c.offer.ensures.same.reference ∙ c.resume-writer.ensures.same_reference))) c.offer.ensures.same

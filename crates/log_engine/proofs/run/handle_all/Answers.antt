@@ -19,7 +19,7 @@ returns-in-Err-make_way-clause-after g c =
     let now = state c.records.handler c.records.reader c.records.input c.records.sink in
     way_broken g.H.RecordHandler g.I.Source g.O.Sink first now c.make_way.new.sink
     (g.met.H.RecordHandler.early_grows c.args.handler.now) c.records.invariant.under
-    c.make_way.ensures.kept c.make_way.ensures.same.grows
+    c.make_way.ensures.step.kept c.make_way.ensures.step.same.grows
 
 pub records-init : goal.records-init
 records-init g c =
@@ -38,7 +38,7 @@ records-init g c =
       calm_out = began.step.cause;
       same = began.step.steady.same;
       under = begun g.H.RecordHandler g.I.Source g.O.Sink first c.begin.new.handler c.begin.new.sink
-          c.requires.start.empty began.empty fresh.2 fresh.3 began.done.0 began.done.1;
+          c.requires.start.empty began.step.empty fresh.2 fresh.3 began.done.0 began.done.1;
     }
 
 pub records-preserved : goal.records-preserved
@@ -54,11 +54,11 @@ records-preserved g c =
     let handled = turn.turned in
     let went = handled.came.brought.went in
     let ready = ready_of g.H.RecordHandler g.I.Source g.O.Sink first now c.make_way.new.sink
-    kept.under way.kept way.same.grows way.ready in
+    kept.under way.step.kept way.step.same.grows way.ready in
     let size = turn_size handled.came.packet (rest now.reader) (rest next.reader) handled.came.more
     handled.came.brought.joins in
     let same = same_through g.O.Sink g.met.O.Sink.transitive in
-    let before = same c.args.sink.now now.sink paused.sink kept.same way.same in
+    let before = same c.args.sink.now now.sink paused.sink kept.same way.step.same in
     record {
       unended = handled.came.brought.unended;
       limit = went.limit ∙ kept.limit;
@@ -67,7 +67,7 @@ records-preserved g c =
       ready = turn.ready (λ e. absurd cc);
       counted = omega (arith, went.taken, size, turn.counted refl, kept.counted);
       calm_in = turn.faults.0 ∙ kept.calm_in;
-      calm_out = turn.faults.1 ∙ way.cause ∙ kept.calm_out;
+      calm_out = turn.faults.1 ∙ way.step.cause ∙ kept.calm_out;
       same = same c.args.sink.now paused.sink next.sink before turn.steady.same;
       under = handled_turn g.H.RecordHandler g.I.Source g.O.Sink first paused next ready kept.job
           kept.limit turn.steady.same.grows handled;
@@ -85,7 +85,7 @@ pub returns-in-Err-make_way-clause-steady : goal.returns-in-Err-make_way-clause-
 returns-in-Err-make_way-clause-steady g c = record {
   job = c.records.invariant.job;
   same = same_through g.O.Sink g.met.O.Sink.transitive c.args.sink.now c.records.sink c.make_way.new.sink
-      c.records.invariant.same c.make_way.ensures.same;
+      c.records.invariant.same c.make_way.ensures.step.same;
 }
 
 pub returns-in-Some-clause-after : goal.returns-in-Some-clause-after
@@ -99,7 +99,7 @@ returns-in-Some-clause-after g c =
     let kept = c.records.invariant in
     let turn = c.in-Some.ensures in
     let ready = ready_of g.H.RecordHandler g.I.Source g.O.Sink first now c.make_way.new.sink
-    kept.under way.kept way.same.grows way.ready in
+    kept.under way.step.kept way.step.same.grows way.ready in
     after_turn g.H.RecordHandler g.I.Source g.O.Sink first paused next c.in-Some.end
     (g.met.H.RecordHandler.early_grows c.args.handler.now) ready kept.job kept.limit
     turn.steady.same.grows turn.turned
@@ -110,6 +110,6 @@ returns-in-Some-clause-steady g c =
     let turn = c.in-Some.ensures.steady in record {
       job = turn.job ∙ c.records.invariant.job;
       same = same c.make_way.new.sink c.handle_next.new.sink
-          (same c.records.sink c.make_way.new.sink c.records.invariant.same c.make_way.ensures.same)
+          (same c.records.sink c.make_way.new.sink c.records.invariant.same c.make_way.ensures.step.same)
           turn.same;
     }

@@ -31,7 +31,7 @@ returns-in-Ok-clause-works g c =
     (state c.args.handler.now c.args.reader.now c.args.input.now c.args.sink.now)
     (state c.handle_all.new.handler c.handle_all.new.reader c.handle_all.new.input c.handle_all.new.sink)
     c.handle_all.result c.close.new.handler c.close.new.sink ran.after c.in_default.not-ReadFault c.in_default.not-WriteFault
-    ran.faults closed.step.cause ran.steady.job closed.empty closed.done
+    ran.faults closed.step.cause ran.steady.job closed.step.empty closed.done
 
 pub returns-in-Ok-clause-never_memory : goal.returns-in-Ok-clause-never_memory
 returns-in-Ok-clause-never_memory g c =

@@ -19,9 +19,8 @@ returns-clause-done g c =
     (λ ended hs s.
     let h = among job hs in (
       counted_right job c.args.self.now.tally v.counts c.end_session.new.receiver.counts hs h refl s.tallied
-          (subst (λ (p : Plan). v.counts.late ≡ late_count (rules_in p) h) c.args.self.now.plan s.heard.counted.late)
-          (subst (λ (p : Plan). v.counts.copies ≡ copy_count (rules_in p) h) c.args.self.now.plan
-          s.heard.counted.copies)
+          (subst (λ (p : Plan). v.counts.late ≡ late_count (rules_in p) h) c.args.self.now.served.plan s.heard.counted.late)
+          (subst (λ (p : Plan). v.counts.copies ≡ copy_count (rules_in p) h) c.args.self.now.served.plan s.heard.counted.copies)
           ended.late ended.copies (ended.blocks h s.heard),
       puts_by job _ _ _ _ (ended.out h s.heard),
     ))
@@ -30,5 +29,4 @@ returns-clause-done g c =
 pub returns-clause-failed : goal.returns-clause-failed
 returns-clause-failed g c =
     let job = c.args.self.now.job in
-    on_err_then _ _ c.end_session.result (λ part hs s. puts_part_by job _ _ _ _ (part.out (among job hs) s.heard))
-    c.end_session.ensures.part
+    on_err_then _ _ c.end_session.result (λ part hs s. puts_part_by job _ _ _ _ (part.out (among job hs) s.heard)) c.end_session.ensures.part
