@@ -16,6 +16,7 @@ use Rattle.amr_playout.specs.declared.merge.Merged.{Merged}
 use Rattle.amr_playout.specs.declared.plan.Plan.{Plan}
 use Rattle.circular_buffer.specs.Buffer.{Buffer}
 use Rattle.amr_playout.specs.Copied.{IsEdge, HoldsBest, Merges, TakesCopies, copies_to, copy_past, newly}
+use Rattle.amr_playout.specs.Ring.{IsRing}
 use Rattle.amr_playout.specs.Window.{at, item, window_of}
 use Rattle.spec_payload.specs.Values.{Value}
 use Rattle.amr_playout.proofs.Cells.{copy, put_one}
@@ -39,26 +40,21 @@ pub newly_out : (edge q : ℤ) (c : ℕ) (f : Frame) → q ≤ℤ edge → newly
 newly_out edge q c f h = ap (λ b. cond b (copy q c f ∷ []) []) (lt_false edge q h)
 
 -- one frame more of an accepted packet
-pub copies_more : (rules : Rules) (a : Accepted) (edge : ℤ) (n : ℕ) → IsEdge rules a edge
-    → a.place ≤ℤ block_place a (n / rules.channels)
-    → copies_to rules a (n + 1) ≡ copies_to rules a n ++ newly edge (block_place a (n / rules.channels))
-    (n % rules.channels) (slice_index_or a.packet.value.frames n no_data)
+pub copies_more : (rules : Rules) (a : Accepted) (edge : ℤ) (n : ℕ) → IsEdge rules a edge → a.place ≤ℤ block_place a (n / rules.channels) →
+    copies_to rules a (n + 1) ≡ copies_to rules a n ++ newly edge (block_place a (n / rules.channels)) (n % rules.channels) (slice_index_or a.packet.value.frames n no_data)
 copies_more rules a edge n is le =
     let q : ℤ = block_place a (n / rules.channels) in
     ap (filter (λ (c : Copy). in_time rules a c.place)) (map-range_with_len_more (copy_at rules a) 0 n n (omega arith))
-    ∙ filter-append (λ (c : Copy). in_time rules a c.place) (map (copy_at rules a) (range_with_len 0 n))
-    (copy_at rules a n ∷ [])
+    ∙ filter-append (λ (c : Copy). in_time rules a c.place) (map (copy_at rules a) (range_with_len 0 n)) (copy_at rules a n ∷ [])
     ∙ ap (λ b. copies_to rules a n ++ cond b (copy_at rules a n ∷ []) []) (is q le)
 
 pub place_up : (a : Accepted) (k : ℕ) → a.place ≤ℤ block_place a k
 place_up a k = let j : ℕ = k * a.packet.value.stride in omega (arith, ints)
 
 -- one frame more in the window
-pub put_newly : (rules : Rules) (cs : List Copy) (base q : ℤ) (r c : ℕ) (x : Frame) (xs : List (Option Frame))
-    → c < rules.channels → r < rules.window → q ≡ base +ℤ pos r
-    → xs ≡ window_of rules cs base →
-    set xs (r * rules.channels + c) (better rules.codec (item xs (r * rules.channels + c)) (Some x)) ≡ window_of rules
-    (cs ++ newly (base -ℤ pos 1) q c x) base
+pub put_newly : (rules : Rules) (cs : List Copy) (base q : ℤ) (r c : ℕ) (x : Frame) (xs : List (Option Frame)) → c < rules.channels → r < rules.window → q ≡ base +ℤ pos r →
+    xs ≡ window_of rules cs base →
+    set xs (r * rules.channels + c) (better rules.codec (item xs (r * rules.channels + c)) (Some x)) ≡ window_of rules (cs ++ newly (base -ℤ pos 1) q c x) base
 put_newly rules cs base q r c x xs lt row is xs_is =
     ap (λ ys. set ys (r * rules.channels + c) (better rules.codec (item ys (r * rules.channels + c)) (Some x))) xs_is
     ∙ put_one rules cs base q r c x lt row is
@@ -74,19 +70,16 @@ block_of n len at some lt whole =
     let below : at / n < len / n = div_below at n (len / n) some (omega arith) in
     omega arith
 
-pub spot_high : (n len at stride : ℕ) (place end : ℤ) → 0 < n → at < len → len % n ≡ 0
-    → (place +ℤ pos ((len / n - 1) * stride)) <ℤ end → (place +ℤ pos ((at / n) * stride)) <ℤ end
+pub spot_high : (n len at stride : ℕ) (place end : ℤ) → 0 < n → at < len → len % n ≡ 0 → (place +ℤ pos ((len / n - 1) * stride)) <ℤ end → (place +ℤ pos ((at / n) * stride)) <ℤ end
 spot_high n len at stride place end some lt whole high =
     let low : at / n ≤ len / n - 1 = block_of n len at some lt whole in
-    let le : (at / n) * stride ≤ (len / n - 1) * stride =
-    mul-le (at / n) stride (len / n - 1) stride low (omega arith) in
+    let le : (at / n) * stride ≤ (len / n - 1) * stride = mul-le (at / n) stride (len / n - 1) stride low (omega arith) in
     omega (arith, ints)
 
 pub small_product : (a b : ℕ) → a < 2 ^ 16 → b < 2 ^ 8 → a * b < 2 ^ 24
 small_product a b h k = let le : a * b ≤ 65535 * 255 = mul-le a b 65535 255 (omega arith) (omega arith) in omega arith
 
-pub newly_same : (edge base q : ℤ) (c : ℕ) (f : Frame) → edge <ℤ q → base ≤ℤ q
-    → newly (base -ℤ pos 1) q c f ≡ newly edge q c f
+pub newly_same : (edge base q : ℤ) (c : ℕ) (f : Frame) → edge <ℤ q → base ≤ℤ q → newly (base -ℤ pos 1) q c f ≡ newly edge q c f
 newly_same edge base q c f h k = newly_in (base -ℤ pos 1) q c f (omega (arith, ints)) ∙ sym (newly_in edge q c f h)
 
 pub different_step : (rules : Rules) (cs : List Copy) (edge q : ℤ) (c : ℕ) (f : Frame) (had : Bool) → edge <ℤ q
@@ -100,55 +93,45 @@ different_step rules cs edge q c f had h is =
     omega (arith, one, more)
 
 -- the place of a block, as the receiver counts it
-pub spot_at : (a : Accepted) (v : Value) (place k : ℕ) → a.packet.value ≡ v → a.place ≡ at place
-    → at (place + k * v.stride) ≡ block_place a k
+pub spot_at : (a : Accepted) (v : Value) (place k : ℕ) → a.packet.value ≡ v → a.place ≡ at place → at (place + k * v.stride) ≡ block_place a k
 spot_at a v place k is here =
     let j : ℕ = k * v.stride in
     let e : at (place + j) ≡ at place +ℤ pos j = omega (arith, ints) in
     e ∙ ap (λ p. p +ℤ pos j) (sym here) ∙ ap (λ (w : Value). a.place +ℤ pos (k * w.stride)) (sym is)
 
 -- the copies with those of one frame more
-pub frame_more : (rules : Rules) (a : Accepted) (v : Value) (edge : ℤ) (place n : ℕ) (f : Frame) (cs : List Copy)
-    → a.packet.value ≡ v → a.place ≡ at place → IsEdge rules a edge
-    → f ≡ slice_index_or v.frames n no_data →
-    (cs ++ copies_to rules a n) ++ newly edge (at (place + (n / rules.channels) * v.stride)) (n % rules.channels)
-    f ≡ cs ++ copies_to rules a (n + 1)
+pub frame_more : (rules : Rules) (a : Accepted) (v : Value) (edge : ℤ) (place n : ℕ) (f : Frame) (cs : List Copy) → a.packet.value ≡ v → a.place ≡ at place → IsEdge rules a edge →
+    f ≡ slice_index_or v.frames n no_data →
+    (cs ++ copies_to rules a n) ++ newly edge (at (place + (n / rules.channels) * v.stride)) (n % rules.channels) f ≡ cs ++ copies_to rules a (n + 1)
 frame_more rules a v edge place n f cs is here edge_is f_is =
-    append_assoc cs (copies_to rules a n)
-    (newly edge (at (place + (n / rules.channels) * v.stride)) (n % rules.channels) f)
+    append_assoc cs (copies_to rules a n) (newly edge (at (place + (n / rules.channels) * v.stride)) (n % rules.channels) f)
     ∙ ap (λ ds. cs ++ ds)
-    (ap (λ p. copies_to rules a n ++ newly edge p (n % rules.channels) f)
-    (spot_at a v place (n / rules.channels) is here)
-    ∙ ap (λ x. copies_to rules a n ++ newly edge (block_place a (n / rules.channels)) (n % rules.channels) x)
-    (f_is ∙ ap (λ (w : Value). slice_index_or w.frames n no_data) (sym is))
+    (ap (λ p. copies_to rules a n ++ newly edge p (n % rules.channels) f) (spot_at a v place (n / rules.channels) is here)
+    ∙ ap (λ x. copies_to rules a n ++ newly edge (block_place a (n / rules.channels)) (n % rules.channels) x) (f_is ∙ ap (λ (w : Value). slice_index_or w.frames n no_data) (sym is))
     ∙ sym (copies_more rules a edge n edge_is (place_up a (n / rules.channels))))
 
-pub frame_more_least : (rules : Rules) (a : Accepted) (v : Value) (edge z y : ℤ) (place n : ℕ) (f : Frame)
-    → a.packet.value ≡ v → a.place ≡ at place → IsEdge rules a edge
-    → f ≡ slice_index_or v.frames n no_data → y ≡ least z (copies_to rules a n) →
-    least y (newly edge (at (place + (n / rules.channels) * v.stride)) (n % rules.channels) f) ≡ least z
-    (copies_to rules a (n + 1))
+pub frame_more_least : (rules : Rules) (a : Accepted) (v : Value) (edge z y : ℤ) (place n : ℕ) (f : Frame) → a.packet.value ≡ v → a.place ≡ at place → IsEdge rules a edge →
+    f ≡ slice_index_or v.frames n no_data → y ≡ least z (copies_to rules a n) →
+    least y (newly edge (at (place + (n / rules.channels) * v.stride)) (n % rules.channels) f) ≡ least z (copies_to rules a (n + 1))
 frame_more_least rules a v edge z y place n f is here edge_is f_is y_is =
-    least_more z y (copies_to rules a n)
-    (newly edge (at (place + (n / rules.channels) * v.stride)) (n % rules.channels) f) y_is
+    least_more z y (copies_to rules a n) (newly edge (at (place + (n / rules.channels) * v.stride)) (n % rules.channels) f) y_is
     ∙ ap (least z) (frame_more rules a v edge place n f [] is here edge_is f_is)
 
 -- nothing was merged
-pub taken_none : (plan : Plan) (base : ℕ) (ring : Buffer Cell) (m : Merged) → TakesCopies plan base ring ring m m []
-taken_none plan base ring m = record {
+pub taken_none : (plan : Plan) (base : ℕ) (ring : Buffer Cell) (m : Merged) → IsRing plan ring
+    → TakesCopies plan base ring ring m m []
+taken_none plan base ring m ringed = record {
   merged = λ cs is. is ∙ ap (λ ds. window_of (rules_in plan) ds (at base)) (sym (append-nil cs));
   least_is = refl;
   counted = λ cs is. (let e = ap different (append-nil cs) in omega (arith, e));
+  ringed = ringed;
 }
 
 -- some copies and then others
 pub taken_more : (plan : Plan) (base : ℕ) (old mid new : Buffer Cell) (s t u : Merged) (ds es : List Copy)
-    → TakesCopies plan base old mid s t ds → TakesCopies plan base mid new t u es
-    → TakesCopies plan base old new s u (ds ++ es)
+    → TakesCopies plan base old mid s t ds → TakesCopies plan base mid new t u es → TakesCopies plan base old new s u (ds ++ es)
 taken_more plan base old mid new s t u ds es a b = record {
-  merged =
-      λ cs is. b.merged (cs ++ ds) (a.merged cs is)
-      ∙ ap (λ xs. window_of (rules_in plan) xs (at base)) (append_assoc cs ds es);
+  merged = λ cs is. b.merged (cs ++ ds) (a.merged cs is) ∙ ap (λ xs. window_of (rules_in plan) xs (at base)) (append_assoc cs ds es);
   least_is = b.least_is ∙ least_more (at s.next) (at t.next) ds es a.least_is;
   counted = λ cs is.
       (let first = a.counted cs is in
@@ -156,31 +139,31 @@ taken_more plan base old mid new s t u ds es a b = record {
       let all = ap different (append_assoc cs ds es) in
       let size = length-append ds es in
       omega (arith, first, then, all, size));
+  ringed = b.ringed;
 }
 
 -- a frame that stands past the edge
-pub taken_past : (plan : Plan) (base edge place channel : ℕ) (cell : Cell) (old new : Buffer Cell)
-    (before after : Merged) (had : Bool)
-    → edge < place → base ≤ place
+pub taken_past : (plan : Plan) (base edge place channel : ℕ) (cell : Cell) (old new : Buffer Cell) (before after : Merged) (had : Bool)
+    → edge < place → base ≤ place → IsRing plan new
     → Merges plan base old new (newly (at base -ℤ pos 1) (at place) channel (frame_of cell))
     → ((cs : List Copy) → HoldsBest plan base old cs → had ≡ is_some (best_at plan.profile.codec cs (at place) channel))
     → after.next ≡ min before.next place → after.copies ≡ before.copies + cond had 1 0
     → TakesCopies plan base old new before after (copy_past edge place channel cell)
-taken_past plan base edge place channel cell old new before after had lt low merges had_is next_is copies_is =
+taken_past plan base edge place channel cell old new before after had lt low ringed merges had_is next_is copies_is =
     let past : at edge <ℤ at place = omega (arith, ints) in
     let up : at base ≤ℤ at place = omega (arith, ints) in
     let f : Frame = frame_of cell in
     record {
       merged = λ cs is.
           merges cs is
-          ∙ ap (λ ds. window_of (rules_in plan) (cs ++ ds) (at base))
-          (newly_same (at edge) (at base) (at place) channel f past up);
+          ∙ ap (λ ds. window_of (rules_in plan) (cs ++ ds) (at base)) (newly_same (at edge) (at base) (at place) channel f past up);
       least_is =
           (let lower : at after.next ≡ int_min (at before.next) (at place) = omega (arith, ints, clamps) in
           lower ∙ ap (least (at before.next)) (sym (newly_in (at edge) (at place) channel f past)));
       counted = λ cs is.
           (let step = different_step (rules_in plan) cs (at edge) (at place) channel f had past (had_is cs is) in
           omega (arith, step, copies_is));
+      ringed = ringed;
     }
 
 -- what a cell holds
@@ -194,5 +177,4 @@ held_frame x f e = (by_present x.present (frame_of x) f e).1
 -- the row of a place in a window
 pub row_at : (base place window : ℕ) → (base ≤ place) × (place < base + window)
     → (at place ≡ at base +ℤ pos (place - base)) × (place - base < window)
-row_at base place window within =
-    let low = within.0 in let high = within.1 in (omega (arith, ints), omega (arith, low, high))
+row_at base place window within = let low = within.0 in let high = within.1 in (omega (arith, ints), omega (arith, low, high))

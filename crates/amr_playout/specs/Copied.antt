@@ -1,5 +1,5 @@
 -- The copies that a packet brings, frame by frame. This project's own.
-use Rattle.std.specs.Prelude.{◌≡◌, ℕ, ◌+◌, ◌++◌, cond, List, [], ◌∷◌, filter, length, map, ℤ, ◌≤ℤ◌, int_lt}
+use Rattle.std.specs.Prelude.{◌≡◌, ℕ, ◌+◌, ◌<◌, ◌++◌, cond, List, [], ◌∷◌, filter, length, map, ℤ, ◌≤ℤ◌, int_lt}
 use Rattle.std.specs.List.{range_with_len}
 use Rattle.amr_frame.specs.Cells.{frame_of}
 use Rattle.amr_frame.specs.Frames.{Frame}
@@ -7,6 +7,7 @@ use Rattle.amr_frame.specs.declared.cell.Cell.{Cell}
 use Rattle.amr_playout.specs.declared.merge.Merged.{Merged}
 use Rattle.amr_playout.specs.declared.plan.Plan.{Plan}
 use Rattle.amr_playout.specs.Plans.{rules_in}
+use Rattle.amr_playout.specs.Ring.{IsPresentCell, IsRing}
 use Rattle.amr_playout.specs.Window.{at, held_of, window_of}
 use Rattle.circular_buffer.specs.Buffer.{Buffer}
 use Rattle.spec_payload.specs.Values.{Value}
@@ -48,11 +49,18 @@ abbrev pub Merges : Plan → ℕ → Buffer Cell → Buffer Cell → List Copy �
 Merges plan base old new ds =
     (cs : List Copy) → HoldsBest plan base old cs → HoldsBest plan base new (cs ++ ds)
 
--- these copies were merged: next is their least place where that is before, and those that came for
--- a place and channel that had one were counted
+-- a ring of the plan, and a frame for one of its channels
+pub record CanMerge (plan : Plan) (ring : Buffer Cell) (channel : ℕ) (frame : Cell) : Type 0 where
+  pub ringed : IsRing plan ring
+  pub below : channel < plan.profile.channels
+  pub valid : IsPresentCell plan.profile.codec frame
+
+-- these copies were merged: next is their least place where that is before, those that came for a
+-- place and channel that had one were counted, and the ring is still that of the plan
 pub record TakesCopies (plan : Plan) (base : ℕ) (old new : Buffer Cell) (before after : Merged)
     (ds : List Copy) : Type 0 where
   pub merged : Merges plan base old new ds
   pub least_is : at after.next ≡ least (at before.next) ds
   pub counted : (cs : List Copy) → HoldsBest plan base old cs
       → different (cs ++ ds) + after.copies ≡ (different cs + length ds) + before.copies
+  pub ringed : IsRing plan new

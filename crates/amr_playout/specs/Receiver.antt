@@ -70,6 +70,7 @@ Grows plan None (Some s) released = (released ≡ 0) × (s.horizon < 2 ^ 24 + pl
 Grows plan (Some t) (Some s) released =
     (t.horizon + released ≤ s.horizon) × (s.horizon ≤ t.horizon + plan.reach)
 
--- it has a cell for each place of the window and each channel
-abbrev pub HasRoom : View → Type 0
-HasRoom v = length v.cells ≡ v.plan.window * v.plan.profile.channels
+-- it goes by the plan that it did, and has a cell for each place of the window and each channel
+pub record KeepsPlan (v v' : View) : Type 0 where
+  pub plan : v'.plan ≡ v.plan
+  pub room : length v'.cells ≡ v'.plan.window * v'.plan.profile.channels

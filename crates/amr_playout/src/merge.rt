@@ -1,10 +1,10 @@
 // Merging the frames of a packet into the ring.
 ghost use Rattle.std.specs.Prelude.{◌≡◌, ◌+◌, ◌-◌, ◌*◌, ◌/◌, ◌%◌, ◌^◌, ◌<◌, ◌≤◌, ◌⊎◌, ◌-ℤ◌, List, is_some, length, min, pos};
 ghost use Rattle.amr_frame.specs.Cells.{frame_of};
-ghost use Rattle.amr_playout.specs.Copied.{HoldsBest, IsPast, Merges, TakesCopies, copy_past, newly};
+ghost use Rattle.amr_playout.specs.Copied.{CanMerge, HoldsBest, IsPast, Merges, TakesCopies, copy_past, newly};
 ghost use Rattle.amr_playout.specs.Heard.{IsReadBy};
 ghost use Rattle.amr_playout.specs.Plans.{rules_in};
-ghost use Rattle.amr_playout.specs.Ring.{IsPresentCell, IsRing};
+ghost use Rattle.amr_playout.specs.Ring.{IsRing};
 ghost use Rattle.amr_playout.specs.Standing.{IsFitting, last_from};
 ghost use Rattle.amr_playout.specs.Window.{at, held_of};
 ghost use Rattle.amr_toc.specs.Viewed.{viewed};
@@ -35,10 +35,8 @@ fn merge_frame(
     channel: usize,
     frame: &Cell,
 ) -> bool
-    requires ring { IsRing plan.now ring.old }
+    requires ready { CanMerge plan.now ring.old channel frame.now }
     requires within { (base ≤ place) × (place < base + plan.now.window) }
-    requires channel { channel < plan.now.profile.channels }
-    requires frame { IsPresentCell plan.now.profile.codec frame.now }
 
     ensures merged { Merges plan.now base ring.old ring.new
         (newly (at base -ℤ pos 1) (at place) channel (frame_of frame.now)) }
@@ -62,16 +60,13 @@ fn merge_past(
     frame: &Cell,
     so_far: Merged,
 ) -> Merged
-    requires ring { IsRing plan.now ring.old }
+    requires ready { CanMerge plan.now ring.old channel frame.now }
     requires within { (edge < place → base ≤ place) × (place < base + plan.now.window) }
-    requires channel { channel < plan.now.profile.channels }
-    requires frame { IsPresentCell plan.now.profile.codec frame.now }
     requires few { so_far.copies < 2 ^ 31 }
 
     ensures merged { TakesCopies plan.now base ring.old ring.new so_far result
         (copy_past edge place channel frame.now) }
     ensures few { result.copies ≤ so_far.copies + 1 }
-    ensures ring { IsRing plan.now ring.new }
 {
     if place <= edge {
         return so_far;

@@ -46,7 +46,7 @@ impl Model for Receiver {
 
 impl Receiver {
     ghost use Rattle.amr_playout.specs.Offers.{Answers, Finishes, FinishesPart};
-    ghost use Rattle.amr_playout.specs.Receiver.{HasRoom, StandsFor, TakesPackets, horizon_in};
+    ghost use Rattle.amr_playout.specs.Receiver.{KeepsPlan, StandsFor, TakesPackets, horizon_in};
 
     /// A receiver that has heard nothing, with room for each channel of each place of the window.
     pub fn create(alloc: Global, plan: Plan) -> Result<Receiver, AllocError>
@@ -116,8 +116,7 @@ impl Receiver {
 
         ensures answer { Answers B.BlockSink self.old self.new (heard rtp.now payload.now)
             out.old out.new result }
-        ensures plan { self.new.plan ≡ self.old.plan }
-        ensures room { HasRoom self.new }
+        ensures keeps { KeepsPlan self.old self.new }
         ensures same { B.same out.old out.new }
     {
         let place = match seat(&self.plan, &self.session, rtp, payload) {
@@ -156,8 +155,7 @@ impl Receiver {
             (FinishesPart B.BlockSink self.old self.new out.old out.new) }
         ensures spent { self.new.spent ≡ true }
         ensures session { self.new.session ≡ self.old.session }
-        ensures plan { self.new.plan ≡ self.old.plan }
-        ensures room { HasRoom self.new }
+        ensures keeps { KeepsPlan self.old self.new }
         ensures step { BlockStep B.BlockSink out.old out.new result }
     {
         self.spent = true;

@@ -14,7 +14,7 @@ use Rattle.amr_playout.proofs.merge.merge_all.Goals as goal
 
 pub loop-index-init : goal.loop-index-init
 loop-index-init c = record {
-  merged = λ a past. taken_none c.args.plan.now c.args.base c.args.ring.now _;
+  merged = λ a past. taken_none c.args.plan.now c.args.base c.args.ring.now _ c.requires.ring;
   few = omega arith;
   stands = c.first_place-walked.ensures;
   ring = c.requires.ring;
@@ -49,7 +49,7 @@ loop-index-preserved c =
           c.loop-index.merged c.merge_past-merged.result _ _ (inv.merged a past) step.merged));
       few = (let more = step.few in let so_far = inv.few in omega arith);
       stands = c.next_frame-frame.ensures.stands;
-      ring = step.ring;
+      ring = step.merged.ringed;
     }
 
 pub merge_past-merged-requires-clause-within : goal.merge_past-merged-requires-clause-within
