@@ -1,9 +1,7 @@
 use crate::{RecordJob, RunEnd, record_log};
-use amr_frame::{Codec, MemoryBlocks, Profile};
+use amr_frame::{Codec, Profile};
 use amr_io::{MemorySink, MemorySource};
-use amr_payload::read_payload;
-use amr_playout::{Plan, Receiver};
-use rtp_packet::read_rtp;
+use amr_playout::Plan;
 use std::alloc::{AllocError, Global};
 use std::process::Abort;
 use std::test::Fail;
@@ -195,40 +193,4 @@ fn a_thousand_packets_in_threes_are_recorded_in_their_order(rt: HostRuntime) -> 
         wanted.extend_from_slice(&[0; 29])?;
     }
     expect_file(&rt, aligned(false, false, None), &log, &wanted, 0)
-}
-
-#[test]
-fn a_receiver_tells_what_it_took(rt: HostRuntime) -> Result<(), Fail> {
-    let profile = aligned(false, false, None);
-    let plan = Plan {
-        profile,
-        window: 64,
-        reach: 100,
-    };
-    assert!(rt; profile.check().is_ok());
-    assert!(rt; plan.check().is_ok());
-    let mut receiver = Receiver::create(rt.alloc(), plan)?;
-    let mut out = MemoryBlocks::create(rt.alloc(), Codec::Amr, 1, 8)?;
-    let mut log = Vec::new(rt.alloc());
-    add_packet(&mut log, 7)?;
-    let Ok(rtp) = read_rtp(&log[2..]) else {
-        panic!(rt; "it is an RTP packet")
-    };
-    let Ok(payload) = read_payload(&profile, rtp.payload()) else {
-        panic!(rt; "it has a payload of the format")
-    };
-    let Ok(taken) = receiver.offer(&rtp, &payload, &mut out) else {
-        panic!(rt; "the first packet is taken")
-    };
-    assert_eq!(rt; (taken.late, taken.copies, taken.released), (0, 0, 0));
-    assert_eq!(rt; receiver.room(), 64);
-    assert_eq!(rt; receiver.horizon(), Some(0));
-    let Ok(count) = receiver.finish(&mut out) else {
-        panic!(rt; "the sink has room")
-    };
-    assert_eq!(rt; count, 1);
-    assert_eq!(rt; receiver.counts().blocks, 1);
-    assert_eq!(rt; out.blocks().len(), 1);
-    assert_eq!(rt; out.blocks()[0].ft, 7);
-    Ok(())
 }
