@@ -77,6 +77,7 @@ fn put_pieces<B: BlockSink>(front: &[Cell], back: &[Cell], out: &mut B) -> Resul
 }
 
 /// Puts out one block of NO_DATA, as often as this.
+#[inline(never)]
 pub fn put_no_data<B: BlockSink>(channels: usize, count: u64, out: &mut B) -> Result<(), Failed>
     requires few { channels ≤ 6 }
     requires sink { TakesBlocks B.BlockSink (B.codec out.old) channels out.old }
