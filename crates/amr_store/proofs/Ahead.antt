@@ -65,8 +65,10 @@ bare_by codec channels file one told (OfOne m e) =
     let front : take (header_len codec file) file ≡ single codec =
     (λ i. take (header_len codec (e i)) (e i)) ∙ ap (λ k. take k (single codec ++ m)) (one_long codec m)
     ∙ take-append_seam (single codec) m in
-    let alone : Headed codec 1 (single codec) [] = subst (λ f. Headed codec 1 f []) (append-nil (single codec)) (one_channel codec []) in
-    subst (IsBare codec channels) (sym front) (bare codec channels (single codec) one (subst (λ k. Headed codec k (single codec) []) n alone))
+    let alone : Headed codec 1 (single codec) [] = subst (λ f. Headed codec 1 f []) (append-nil (single codec))
+    (one_channel codec []) in
+    subst (IsBare codec channels) (sym front) (bare codec channels (single codec) one
+    (subst (λ k. Headed codec k (single codec) []) n alone))
 bare_by codec channels file one told (OfMany a b c d m e) =
     let h = several codec a b c d m in
     let n : d % 16 ≡ channels = sym h.told ∙ ap (channels_told codec) (sym e) ∙ told in
@@ -74,17 +76,23 @@ bare_by codec channels file one told (OfMany a b c d m e) =
     let front : take (header_len codec file) file ≡ head =
     (λ i. take (header_len codec (e i)) (e i))
     ∙ ap (λ k. take k (multi codec ++ (a ∷ b ∷ c ∷ d ∷ m))) (many_long codec a b c d m) ∙ many_front codec a b c d m in
-    subst (IsBare codec channels) (sym front) (bare codec channels head one (subst (λ k. Headed codec k head []) n (several codec a b c d [])))
+    subst (IsBare codec channels) (sym front) (bare codec channels head one
+    (subst (λ k. Headed codec k head []) n (several codec a b c d [])))
 
 pub header_bare : (codec : Codec) (channels : ℕ) (file : List ℕ) (n : ℕ) → 1 ≤ channels
     → HeaderWhole codec channels file n → IsBare codec channels (take n file)
 header_bare codec channels file n one h =
-    subst (λ k. IsBare codec channels (take k file)) (sym h.len) (bare_by codec channels file one h.told (spelled codec file h.has))
+    subst (λ k. IsBare codec channels (take k file)) (sym h.len)
+    (bare_by codec channels file one h.told (spelled codec file h.has))
 
 -- less than a header shows none
 pub part_no_header : (codec : Codec) (channels : ℕ) (file : List ℕ) → HeaderPart codec channels file
     → ShowsNoHeader codec channels file
-part_no_header codec channels file h = record { shown = h.shown; header = ap (λ v. v && nat_eq (channels_told codec file) channels) h.none }
+part_no_header codec channels file h = record {
+  shown = h.shown;
+  header = ap
+      (λ v. v && nat_eq (channels_told codec file) channels) h.none;
+}
 
 -- a file that ends in its header is refused so
 pub cut_no_header : (codec : Codec) (channels : ℕ) (file : List ℕ) (w : StoreRefusal) → HeaderPart codec channels file
@@ -94,7 +102,8 @@ cut_no_header codec channels file w h k =
     let shown = h.shown in let cut = k.cut in
     record { refused = (λ i. first (shown i ∷ cut i ∷ [])); header = (part_no_header codec channels file h).header }
 
-module _ (codec : Codec) (channels : ℕ) (file : List ℕ) (one : 1 ≤ channels) (is : store_refusal codec channels file ≡ None) where
+module _ (codec : Codec) (channels : ℕ) (file : List ℕ) (one : 1 ≤ channels)
+    (is : store_refusal codec channels file ≡ None) where
   -- a block is one more
   pub block_ahead : (octets : List ℕ) (us : List (List ℕ)) → AreUnits codec us octets → length us ≡ channels
       → (store_refusal codec channels (file ++ octets) ≡ None)
@@ -133,11 +142,13 @@ module _ (codec : Codec) (channels : ℕ) (file : List ℕ) (one : 1 ≤ channel
       elim e [
         | inl f ↦ (
             let some : ltb 0 (length rest) ≡ true = lt-ltb 0 (length rest) (let l = f.0 in omega (arith, left, l)) in
-            cut ∙ (λ i. first (when (some i) (why.Truncated (length file + size i)) ∷ when (ltb 0 (length us)) (why.BlockRest (length file)) ∷ [])) ∙ ap (λ v. Some v) (sym f.1))
+            cut ∙ (λ i. first (when (some i) (why.Truncated (length file + size i)) ∷ when (ltb 0 (length us))
+            (why.BlockRest (length file)) ∷ [])) ∙ ap (λ v. Some v) (sym f.1))
         | inr f ↦ (
             let none : rest ≡ [] = nil_from_length rest (let l = f.0 in omega (arith, left, l)) in
             let some = no_frames us block h.hold.are (let l = f.1 in omega (arith, size, l)) in
-            cut ∙ (λ i. first (when (ltb 0 (length (none i))) (why.Truncated (length file + length block)) ∷ when (some i) (why.BlockRest (length file)) ∷ [])) ∙ ap (λ v. Some v) (sym f.2))
+            cut ∙ (λ i. first (when (ltb 0 (length (none i))) (why.Truncated (length file + length block)) ∷ when
+            (some i) (why.BlockRest (length file)) ∷ [])) ∙ ap (λ v. Some v) (sym f.2))
       ]
 
   pub cut_ahead : (octets : List ℕ) (at : ℕ) (w : StoreRefusal) → BlockPart codec channels octets at
@@ -146,5 +157,7 @@ module _ (codec : Codec) (channels : ℕ) (file : List ℕ) (one : 1 ≤ channel
   cut_ahead octets at w h e =
       let n = part_ahead octets at h in
       let shown = n.shown in
-      let cut : cut_refusal codec channels (file ++ octets) ≡ Some w = ap (λ o. cut_refusal codec channels (file ++ o)) (sym (take-append-drop at octets)) ∙ end_ahead octets at w h e in
+      let cut : cut_refusal codec channels (file ++ octets) ≡ Some w = ap
+      (λ o. cut_refusal codec channels (file ++ o)) (sym (take-append-drop at octets))
+      ∙ end_ahead octets at w h e in
       record { refused = (λ i. first (shown i ∷ cut i ∷ [])); blocks = n.blocks }

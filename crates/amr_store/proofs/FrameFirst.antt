@@ -84,7 +84,8 @@ holds_frame codec (o ∷ rest) some small e room =
       within = omega (arith, room);
       first = record {
         join = ap (λ t. o ∷ t) (sym (take-append-drop n rest));
-        whole = eq-eqb (length unit) (1 + octets_in codec (unit_type unit)) (ap suc size ∙ one ∙ ap (λ t. 1 + octets_in codec t) (sym type));
+        whole = eq-eqb (length unit) (1 + octets_in codec (unit_type unit))
+            (ap suc size ∙ one ∙ ap (λ t. 1 + octets_in codec t) (sym type));
         known = ap (is_reserved codec) type ∙ e;
       };
     })
@@ -95,7 +96,8 @@ pub holds_part : (codec : Codec) (octets : List ℕ) → 0 < length octets → g
 holds_part codec [] some small less = absurd (omega arith)
 holds_part codec (o ∷ rest) some small less =
     let ft = o / 8 % 16 in
-    let type : octets_in codec (unit_type (o ∷ rest)) ≡ octets_in codec ft = ap (octets_in codec) (type_in o rest small) in
+    let type : octets_in codec (unit_type (o ∷ rest)) ≡ octets_in codec ft = ap (octets_in codec)
+    (type_in o rest small) in
     let m = most_octets codec ft in
     record { part = omega (arith, type, less); few = omega (arith, m, less) }
 

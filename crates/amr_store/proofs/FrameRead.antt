@@ -33,7 +33,8 @@ unit_room : (codec : Codec) (o : ℕ) (unit more octets : List ℕ) → o < 256 
     → FirstIs codec octets
 unit_room codec o unit more octets small h =
     let type : unit_type (o ∷ unit) ≡ o / 8 % 16 = type_in o unit small in
-    let size : suc (length unit) ≡ 1 + octets_in codec (unit_type (o ∷ unit)) = eqb-true (suc (length unit)) (1 + octets_in codec (unit_type (o ∷ unit))) h.whole in
+    let size : suc (length unit) ≡ 1 + octets_in codec (unit_type (o ∷ unit)) = eqb-true (suc (length unit))
+    (1 + octets_in codec (unit_type (o ∷ unit))) h.whole in
     let same : octets_in codec (unit_type (o ∷ unit)) ≡ octets_in codec (o / 8 % 16) = ap (octets_in codec) type in
     let l = length-append unit more in
     subst (FirstIs codec) (sym h.join) (record {
@@ -48,15 +49,18 @@ first_is codec octets small h = by_unit h.unit h.first
   where
     by_unit : (unit : List ℕ) → IsFirst codec octets unit h.more → FirstIs codec octets
     by_unit [] f = (let e = eqb-true 0 (1 + octets_in codec (unit_type [])) f.whole in absurd (omega (arith, e)))
-    by_unit (o ∷ unit) f = unit_room codec o unit h.more octets (subst (λ n. n < 256) (ap (λ l. get_or l 0 0) f.join) (small 0)) f
+    by_unit (o ∷ unit) f = unit_room codec o unit h.more octets
+        (subst (λ n. n < 256) (ap (λ l. get_or l 0 0) f.join) (small 0)) f
 
 -- it is read as the frame that its octets say
 frame_by : (codec : Codec) (o : ℕ) (u more : List ℕ) → o < 256 → is_unit codec (o ∷ u) ≡ true
-    → frame_with (o / 8 % 16) (nat_eq (o / 4 % 2) 1) (bits_at (o ∷ u ++ more) 8 (bits_in codec (o / 8 % 16))) ≡ frame_in codec (o ∷ u)
+    → frame_with (o / 8 % 16) (nat_eq (o / 4 % 2) 1) (bits_at (o ∷ u ++ more) 8 (bits_in codec (o / 8 % 16))) ≡
+    frame_in codec (o ∷ u)
 frame_by codec o u more small e =
     let type : unit_type (o ∷ u) ≡ o / 8 % 16 = type_in o u small in
     let m = bits_in codec (o / 8 % 16) in
-    let size : suc (length u) ≡ 1 + octets_in codec (unit_type (o ∷ u)) = eqb-true (suc (length u)) (1 + octets_in codec (unit_type (o ∷ u))) e in
+    let size : suc (length u) ≡ 1 + octets_in codec (unit_type (o ∷ u)) = eqb-true (suc (length u))
+    (1 + octets_in codec (unit_type (o ∷ u))) e in
     let same : octets_in codec (unit_type (o ∷ u)) ≡ octets_in codec (o / 8 % 16) = ap (octets_in codec) type in
     let bits : bits_at (o ∷ u ++ more) 8 m ≡ bits_at (o ∷ u) 8 (bits_in codec (unit_type (o ∷ u))) =
     sym (run-rest (o ∷ u ++ more) 0 8 (8 + m) m refl)
@@ -68,13 +72,16 @@ frame_by codec o u more small e =
 pub frame_same : (codec : Codec) (octets unit more : List ℕ) (n : ℕ) → ((k : ℕ) → get_or octets k 0 < 256)
     → IsFirst codec octets unit more
     → n ≡ bits_in codec (get_or octets 0 0 / 8 % 16)
-    → frame_with (get_or octets 0 0 / 8 % 16) (nat_eq (get_or octets 0 0 / 4 % 2) 1) (bits_at octets 8 n) ≡ frame_in codec unit
-frame_same codec octets [] more n small f e = (let z = eqb-true 0 (1 + octets_in codec (unit_type [])) f.whole in absurd (omega (arith, z)))
+    → frame_with (get_or octets 0 0 / 8 % 16) (nat_eq (get_or octets 0 0 / 4 % 2) 1) (bits_at octets 8 n) ≡ frame_in
+    codec unit
+frame_same codec octets [] more n small f e = (let z = eqb-true 0 (1 + octets_in codec (unit_type [])) f.whole in
+    absurd (omega (arith, z)))
 frame_same codec octets (o ∷ u) more n small f e =
     let first : get_or octets 0 0 ≡ o = ap (λ l. get_or l 0 0) f.join in
     let join = f.join in
     ap (λ m. frame_with (get_or octets 0 0 / 8 % 16) (nat_eq (get_or octets 0 0 / 4 % 2) 1) (bits_at octets 8 m)) e
-    ∙ (λ i. frame_with (first i / 8 % 16) (nat_eq (first i / 4 % 2) 1) (bits_at (join i) 8 (bits_in codec (first i / 8 % 16))))
+    ∙ (λ i. frame_with (first i / 8 % 16) (nat_eq (first i / 4 % 2) 1)
+    (bits_at (join i) 8 (bits_in codec (first i / 8 % 16))))
     ∙ frame_by codec o u more (subst (λ n. n < 256) first (small 0)) f.whole
 
 -- the frames of a block of which k stand in cells: `at` octets of it are read
@@ -129,7 +136,8 @@ a_frame_left codec octets n at k cells h under = by_left h.left h.are h.here h.a
     by_left : (left : List (List ℕ)) → AreUnits codec (h.done ++ left) octets
         → drop at octets ≡ flat_map (λ (u : List ℕ). u) left → length (h.done ++ left) ≡ n
         → Left codec octets n at k cells
-    by_left [] are here all = (let l = length-append h.done [] in let e = h.count in absurd (omega (arith, l, e, all, under)))
+    by_left [] are here all = (let l = length-append h.done [] in let e = h.count in absurd
+        (omega (arith, l, e, all, under)))
     by_left (unit ∷ more) are here all =
         let whole = split_all (λ u. is_unit codec u ≡ true) h.done (unit ∷ more) are.whole in
         let known = split_all (λ u. is_reserved_unit codec u ≡ false) h.done (unit ∷ more) are.known in
@@ -174,15 +182,20 @@ fill_more codec octets n at k size cells cell h under r e =
     ∙ ap (λ m. drop m (l.unit ++ flat_map (λ (u : List ℕ). u) l.more)) (sym long)
     ∙ drop-append_seam l.unit (flat_map (λ (u : List ℕ). u) l.more) in
     let left = length-drop at octets in
-    let both : length (drop at octets) ≡ length l.unit + length (flat_map (λ (u : List ℕ). u) l.more) = ap length l.first.join ∙ length-append l.unit (flat_map (λ (u : List ℕ). u) l.more) in
+    let both : length (drop at octets) ≡ length l.unit + length (flat_map (λ (u : List ℕ). u) l.more) = ap length
+    l.first.join ∙ length-append l.unit (flat_map (λ (u : List ℕ). u) l.more) in
     let before = h.within in
     let room : at + (1 + size) ≤ length octets = omega (arith, left, both, long, before) in
     let size_is = l.size in
-    let front : take (k + 1) (set cells k cell) ≡ take k cells ++ cell ∷ [] = take_more_set cells k cell (omega (arith, size_is, under)) in
-    let frames : frames_of (take (k + 1) (set cells k cell)) ≡ frames_of (take k cells) ++ frame_of cell ∷ [] = ap frames_of front ∙ map-append frame_of (take k cells) (cell ∷ []) in
+    let front : take (k + 1) (set cells k cell) ≡ take k cells ++ cell ∷ [] = take_more_set cells k cell
+    (omega (arith, size_is, under)) in
+    let frames : frames_of (take (k + 1) (set cells k cell)) ≡ frames_of (take k cells) ++ frame_of cell ∷ [] = ap
+    frames_of front ∙ map-append frame_of (take k cells) (cell ∷ []) in
     let valid = all_append (IsFrame codec) (frames_of (take k cells)) (frame_of cell ∷ []) l.valid (r.valid, tt) in
-    let present = all_append (λ (cell : Cell). IsTrue cell.present) (take k cells) (cell ∷ []) l.present (r.present, tt) in
-    let joined : (l.done ++ l.unit ∷ []) ++ l.more ≡ l.done ++ l.unit ∷ l.more = append_assoc l.done (l.unit ∷ []) l.more in (
+    let present = all_append (λ (cell : Cell). IsTrue cell.present) (take k cells) (cell ∷ []) l.present
+    (r.present, tt) in
+    let joined : (l.done ++ l.unit ∷ []) ++ l.more ≡ l.done ++ l.unit ∷ l.more = append_assoc l.done (l.unit ∷ [])
+    l.more in (
       room,
       record {
         done = l.done ++ l.unit ∷ [];
@@ -217,6 +230,10 @@ fill_end codec octets n at k cells h over =
       frames = ap frames_of (sym whole) ∙ h.frames;
       block = record {
         present = subst (AllByRecursion (λ (cell : Cell). IsTrue cell.present)) whole h.present;
-        block = record { whole = length-map cells frame_of; frames = subst (λ cs. AllByRecursion (IsFrame codec) (frames_of cs)) whole h.valid };
+        block = record {
+          whole = length-map cells frame_of;
+          frames = subst
+              (λ cs. AllByRecursion (IsFrame codec) (frames_of cs)) whole h.valid;
+        };
       };
     }

@@ -26,7 +26,8 @@ pub one_header : (codec : Codec) (file : List ℕ) → begins_with (multi codec)
     → length (single codec) ≤ length file → IsHeader codec file 1 (length (single codec))
 one_header codec file f s room =
     let n = length (single codec) in
-    let long : header_len codec file ≡ n = ap (λ v. cond v (length (cond v (multi codec) (single codec)) + 4) (length (cond v (multi codec) (single codec)))) f in
+    let long : header_len codec file ≡ n = ap (λ v. cond v (length (cond v (multi codec) (single codec)) + 4)
+    (length (cond v (multi codec) (single codec)))) f in
     let magic : has_magic codec file ≡ true = ap (λ v. v || begins_with (multi codec) file) s in
     record {
       magic = magic;
@@ -46,8 +47,10 @@ pub several_header : (codec : Codec) (file : List ℕ) → begins_with (multi co
     → IsHeader codec file (slice_index file (length (multi codec) + 3) % 16) (length (multi codec) + 4)
 several_header codec file f room =
     let n = length (multi codec) in
-    let long : header_len codec file ≡ n + 4 = ap (λ v. cond v (length (cond v (multi codec) (single codec)) + 4) (length (cond v (multi codec) (single codec)))) f in
-    let magic : has_magic codec file ≡ true = either (begins_with (single codec) file) (begins_with (multi codec) file) f in
+    let long : header_len codec file ≡ n + 4 = ap (λ v. cond v (length (cond v (multi codec) (single codec)) + 4)
+    (length (cond v (multi codec) (single codec)))) f in
+    let magic : has_magic codec file ≡ true = either (begins_with (single codec) file)
+    (begins_with (multi codec) file) f in
     record {
       magic = magic;
       has = (λ i. magic i && not (ltb (length file) (long i))) ∙ ap not (le-ltb (length file) (n + 4) room);
@@ -59,7 +62,8 @@ several_header codec file f room =
 -- the rule of reserved types
 abbrev rest_rule : Codec → List ℕ → Option StoreRefusal
 rest_rule codec file = let us = (units_in codec file).whole in
-    option_map (λ k. why.Reserved (unit_place codec file k) (slice_index (map unit_type us) k)) (first_reserved codec us)
+    option_map (λ k. why.Reserved (unit_place codec file k) (slice_index (map unit_type us) k))
+    (first_reserved codec us)
 
 -- a whole header is that of the channels, or of others
 pub header_told : (codec : Codec) (channels : ℕ) (file : List ℕ) (chan n : ℕ) → IsHeader codec file chan n
@@ -68,7 +72,8 @@ header_told codec channels file chan n h =
     let magic = h.magic in
     let has = h.has in
     let told = h.told in
-    elim (nat_eq chan channels) as (λ v. nat_eq chan channels ≡ v → HeaderShows codec channels file (cond v (sight.Whole n) (sight.Refused (why.Channels chan)))) [
+    elim (nat_eq chan channels) as (λ v. nat_eq chan channels ≡ v
+    → HeaderShows codec channels file (cond v (sight.Whole n) (sight.Refused (why.Channels chan)))) [
       | true ↦ λ e. record { has = has; told = told ∙ eqb-true chan channels e; len = h.len; within = h.within }
       | false ↦ λ e.
           let other : nat_eq (channels_told codec file) channels ≡ false = ap (λ n. nat_eq n channels) told ∙ e in

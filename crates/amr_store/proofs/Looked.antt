@@ -115,7 +115,8 @@ pub ended_seeks : (left left' : Option (List ℕ)) (more : List ℕ) (old new : 
 ended_seeks left left' more old new at f c x l h = ended_by old.phase left left' more old new at f c x l refl h h
 
 -- reading that ended behind the octets held
-pub end_sought : {S : Type 0} (s : source.Ghosts S) (before mid after : S) (old now new : StoreReader) (more : List ℕ) (at : ℕ) (f : Found)
+pub end_sought : {S : Type 0} (s : source.Ghosts S) (before mid after : S) (old now new : StoreReader) (more : List ℕ)
+    (at : ℕ) (f : Found)
     → new.phase ≡ old.phase → IsSameReader old new → held new ≡ held now
     → Consumes (s.left before) (s.left mid) more → IsAtEnd (s.left mid) → Keeps (s.left mid) (s.left after)
     → held old ++ more ≡ held now → taken_of new ≡ taken_of old + length more
@@ -129,7 +130,9 @@ end_sought s before mid after old now new more at f p same h read ended keeps jo
     record {
       seeks = (
         more,
-        ended_seeks left (s.left after) more old new at f (Consumes-kept left (s.left mid) (s.left after) more read keeps) (exhausts left (s.left mid) more read ended)
+        ended_seeks left (s.left after) more old new at f
+            (Consumes-kept left (s.left mid) (s.left after) more read keeps)
+            (exhausts left (s.left mid) more read ended)
             (subst (λ l. Looks old l (sight.Part at)) (sym h) part) mine,
         all,
         taken,
@@ -150,13 +153,15 @@ len_by phase.Spent codec channels place octets n h = h.within
 
 within_by : (left left' : Option (List ℕ)) (more : List ℕ) (old mid : StoreReader) (f : Result Found Failed)
     → SeeksBy left left' more old f mid → len_of f ≤ length (held mid)
-within_by left left' more old mid (Ok (found.Whole n)) k = len_by old.phase old.codec old.channels (given old) (held mid) n k.1
+within_by left left' more old mid (Ok (found.Whole n)) k = len_by old.phase old.codec old.channels (given old)
+    (held mid) n k.1
 within_by left left' more old mid (Ok (found.Shown w)) k = omega arith
 within_by left left' more old mid (Ok (found.Cut w)) k = omega arith
 within_by left left' more old mid (Ok found.End) k = omega arith
 within_by left left' more old mid (Ok found.OverLimit) k = omega arith
 within_by left left' more old mid (Err e) k = omega arith
 
-pub found_within : {S : Type 0} (s : source.Ghosts S) (before after : S) (old mid : StoreReader) (f : Result Found Failed) → Sought s before after old f mid
+pub found_within : {S : Type 0} (s : source.Ghosts S) (before after : S) (old mid : StoreReader)
+    (f : Result Found Failed) → Sought s before after old f mid
     → len_of f ≤ length (held mid)
 found_within s before after old mid f k = within_by (s.left before) (s.left after) k.seeks.0 old mid f k.seeks.1

@@ -42,9 +42,15 @@ record Behind (more : List ℕ) (old new : StoreReader) (len : ℕ) (mid : Store
 
 -- a reader is the same through two steps
 pub same_through : (old mid new : StoreReader) → IsSameReader old mid → IsSameReader mid new → IsSameReader old new
-same_through old mid new p q = record { codec = q.codec ∙ p.codec; channels = q.channels ∙ p.channels; limit = q.limit ∙ p.limit }
+same_through old mid new p q = record {
+  codec = q.codec ∙ p.codec;
+  channels = q.channels ∙ p.channels;
+  limit = q.limit
+      ∙ p.limit;
+}
 
-behind : {S : Type 0} (s : source.Ghosts S) (before after : S) (old mid new : StoreReader) (f : Result Found Failed) (r : Result Step Failed)
+behind : {S : Type 0} (s : source.Ghosts S) (before after : S) (old mid new : StoreReader) (f : Result Found Failed)
+    (r : Result Step Failed)
     → (k : Sought s before after old f mid) → Settles mid f r new → Behind k.seeks.0 old new (len_of f) mid
 behind s before after old mid new f r k t = record {
   join = k.seeks.2;
@@ -112,23 +118,45 @@ module _ (left left' : Option (List ℕ)) (more : List ℕ) (old mid new : Store
         k.0,
         all_held more old new mid b,
         inl (λ behind.
-            subst (λ l. RefusesHeader old.codec old.channels (shown_refusal old.codec old.channels) w (l ++ behind)) (sym b.left) (wrong_header_more old.codec old.channels (held mid) behind w h)),
+            subst (λ l. RefusesHeader old.codec old.channels (shown_refusal old.codec old.channels) w (l ++ behind))
+            (sym b.left) (wrong_header_more old.codec old.channels (held mid) behind w h)),
       )
   begins_by (Ok (found.Cut w)) fresh k b p =
       let at = k.2.0 in
       let h = header (sight.Part at) (held mid) fresh.0 k.2.1 in
-      let e = subst (λ q. EndsBy q old.codec old.channels (given old) (held mid) at (found.Cut w)) fresh.0 k.2.2 in
-      (k.0, all_held more old new mid b, inr (k.1, subst (RefusesHeader old.codec old.channels (store_refusal old.codec old.channels) w) (sym b.left) (cut_no_header old.codec old.channels (held mid) w h e)))
-  begins_by (Ok found.End) fresh k b p = absurd (subst (λ q. EndsBy q old.codec old.channels (given old) (held mid) k.2.0 found.End) fresh.0 k.2.2)
+      let e = subst (λ q. EndsBy q old.codec old.channels (given old) (held mid) at (found.Cut w)) fresh.0 k.2.2 in (
+        k.0,
+        all_held more old new mid b,
+        inr (
+          k.1,
+          subst
+              (RefusesHeader old.codec old.channels (store_refusal old.codec old.channels) w) (sym b.left)
+              (cut_no_header old.codec old.channels (held mid) w h e),
+        ),
+      )
+  begins_by (Ok found.End) fresh k b p = absurd (subst
+      (λ q. EndsBy q old.codec old.channels (given old) (held mid) k.2.0 found.End) fresh.0 k.2.2)
   begins_by (Ok found.OverLimit) fresh k b p =
-      let h = header (sight.Part k.2.0) (held mid) fresh.0 k.2.1 in
-      (k.0, k.1, all_held more old new mid b, b.mid_taken ∙ k.3 ∙ sym b.mid_limit, subst (ShowsNoHeader old.codec old.channels) (sym b.left) (part_no_header old.codec old.channels (held mid) h))
+      let h = header (sight.Part k.2.0) (held mid) fresh.0 k.2.1 in (
+        k.0,
+        k.1,
+        all_held more old new mid b,
+        b.mid_taken ∙ k.3
+            ∙ sym b.mid_limit,
+        subst (ShowsNoHeader old.codec old.channels) (sym b.left)
+            (part_no_header old.codec old.channels (held mid) h),
+      )
   begins_by (Err e) fresh k b p =
-      let h = header (sight.Part k.1.0) (held mid) fresh.0 k.1.1 in
-      (k.0, all_held more old new mid b, subst (ShowsNoHeader old.codec old.channels) (sym b.left) (part_no_header old.codec old.channels (held mid) h))
+      let h = header (sight.Part k.1.0) (held mid) fresh.0 k.1.1 in (
+        k.0,
+        all_held more old new mid b,
+        subst (ShowsNoHeader old.codec old.channels) (sym b.left)
+            (part_no_header old.codec old.channels (held mid) h),
+      )
 
 -- what a call for the header did
-pub began : {S : Type 0} (s : source.Ghosts S) (before after : S) (old mid new : StoreReader) (f : Result Found Failed) (r : Result Step Failed)
+pub began : {S : Type 0} (s : source.Ghosts S) (before after : S) (old mid new : StoreReader)
+    (f : Result Found Failed) (r : Result Step Failed)
     → Sought s before after old f mid → Settles mid f r new → IsFresh old
     → Began (s.left before) (s.left after) old r new
 began s before after old mid new f r k t fresh =
@@ -137,7 +165,8 @@ began s before after old mid new f r k t fresh =
     record {
       more = more;
       begins = subst (λ a. Begins (s.left before) (s.left after) more old a new) (sym t.answer)
-          (begins_by (s.left before) (s.left after) more old mid new f fresh k.seeks.1 b (t.phase_is ∙ ap phase_after t.answer));
+          (begins_by (s.left before) (s.left after) more old mid new f fresh k.seeks.1 b
+          (t.phase_is ∙ ap phase_after t.answer));
       taken = b.taken;
     }
 
@@ -171,12 +200,14 @@ block_long codec octets cells h =
 module _ (left left' : Option (List ℕ)) (more : List ℕ) (old mid new : StoreReader) (cells cells' : List Cell) where
   blocks : (s : Sight) (place : ℕ) (octets : List ℕ) → old.phase ≡ phase.Open → place ≡ given old → Looks old octets s
       → BlockShows old.codec old.channels place octets s
-  blocks s place octets e p h = subst (λ n. BlockShows old.codec old.channels n octets s) (sym p) (subst (λ p. LooksBy p old.codec old.channels (given old) octets s) e h)
+  blocks s place octets e p h = subst (λ n. BlockShows old.codec old.channels n octets s) (sym p)
+      (subst (λ p. LooksBy p old.codec old.channels (given old) octets s) e h)
 
   block_ends : (f : Found) (place at : ℕ) (octets : List ℕ) → old.phase ≡ phase.Open → place ≡ given old
       → EndsBy old.phase old.codec old.channels (given old) octets at f
       → BlockEnds octets place at f
-  block_ends f place at octets e p h = subst (λ n. BlockEnds octets n at f) (sym p) (subst (λ q. EndsBy q old.codec old.channels (given old) octets at f) e h)
+  block_ends f place at octets e p h = subst (λ n. BlockEnds octets n at f) (sym p)
+      (subst (λ q. EndsBy q old.codec old.channels (given old) octets at f) e h)
 
   module _ (file : List ℕ) (g : HasGiven file old) (size : length cells ≡ channels_of old) where
     -- a call for the next block, by what was found
@@ -189,7 +220,8 @@ module _ (left left' : Option (List ℕ)) (more : List ℕ) (old mid new : Store
         let block = take len (held mid) in
         let read : ReadsBlock old.codec block cells' = subst (λ c. ReadsBlock c block cells') same.codec fills.0 in
         let count : length cells' ≡ old.channels = fills.1 ∙ size in
-        let ahead = block_ahead old.codec old.channels file old.some g.is_file block read.units read.are (read.count ∙ count) in
+        let ahead = block_ahead old.codec old.channels file old.some g.is_file block read.units read.are
+        (read.count ∙ count) in
         let codec = b.same.codec in let channels = b.same.channels in
         let long : length block ≡ len = length-take-le len (held mid) under in
         let both = length-append file block in
@@ -214,9 +246,12 @@ module _ (left left' : Option (List ℕ)) (more : List ℕ) (old mid new : Store
           k.0,
           all_held more old new mid b,
           inl (λ behind.
-              subst (λ l. RefusesBlock old.codec old.channels file (shown_refusal old.codec old.channels) w ((file ++ l) ++ behind)) (sym b.left)
-              (subst (RefusesBlock old.codec old.channels file (shown_refusal old.codec old.channels) w) (sym (append_assoc file (held mid) behind))
-              (wrong_ahead old.codec old.channels file old.some g.is_file (held mid ++ behind) w (wrong_more old.codec old.channels (length file) (held mid) behind w h)))),
+              subst (λ l. RefusesBlock old.codec old.channels file (shown_refusal old.codec old.channels) w
+              ((file ++ l) ++ behind)) (sym b.left)
+              (subst (RefusesBlock old.codec old.channels file (shown_refusal old.codec old.channels) w)
+              (sym (append_assoc file (held mid) behind))
+              (wrong_ahead old.codec old.channels file old.some g.is_file (held mid ++ behind) w
+              (wrong_more old.codec old.channels (length file) (held mid) behind w h)))),
         )
     goes_by (Ok (found.Cut w)) k b same fills p =
         let at = k.2.0 in
@@ -226,7 +261,8 @@ module _ (left left' : Option (List ℕ)) (more : List ℕ) (old mid new : Store
           all_held more old new mid b,
           inr (
             k.1,
-            subst (λ l. RefusesBlock old.codec old.channels file (store_refusal old.codec old.channels) w (file ++ l)) (sym b.left)
+            subst (λ l. RefusesBlock old.codec old.channels file (store_refusal old.codec old.channels) w (file ++ l))
+                (sym b.left)
                 (cut_ahead old.codec old.channels file old.some g.is_file (held mid) at w h e),
           ),
         )
@@ -239,17 +275,20 @@ module _ (left left' : Option (List ℕ)) (more : List ℕ) (old mid new : Store
           k.1,
           all_held more old new mid b,
           b.mid_taken ∙ k.3 ∙ sym b.mid_limit,
-          subst (λ l. ShowsNothing old.codec old.channels file (file ++ l)) (sym b.left) (part_ahead old.codec old.channels file old.some g.is_file (held mid) k.2.0 h),
+          subst (λ l. ShowsNothing old.codec old.channels file (file ++ l)) (sym b.left)
+              (part_ahead old.codec old.channels file old.some g.is_file (held mid) k.2.0 h),
         )
     goes_by (Err e) k b same fills p =
         let h = blocks (sight.Part k.1.0) (length file) (held mid) g.is_open.0 g.given_are k.1.1 in (
           k.0,
           all_held more old new mid b,
-          subst (λ l. ShowsNothing old.codec old.channels file (file ++ l)) (sym b.left) (part_ahead old.codec old.channels file old.some g.is_file (held mid) k.1.0 h),
+          subst (λ l. ShowsNothing old.codec old.channels file (file ++ l)) (sym b.left)
+              (part_ahead old.codec old.channels file old.some g.is_file (held mid) k.1.0 h),
         )
 
 -- what a call for the next block did
-pub went_on : {S : Type 0} (s : source.Ghosts S) (before after : S) (old mid new : StoreReader) (f : Result Found Failed) (r : Result Step Failed) (cells cells' : List Cell)
+pub went_on : {S : Type 0} (s : source.Ghosts S) (before after : S) (old mid new : StoreReader)
+    (f : Result Found Failed) (r : Result Step Failed) (cells cells' : List Cell)
     → Sought s before after old f mid → FillsCells mid f cells cells' → Settles mid f r new
     → length cells ≡ channels_of old
     → (file : List ℕ) → HasGiven file old → WentOn file (s.left before) (s.left after) old r cells' new
@@ -259,7 +298,8 @@ went_on s before after old mid new f r cells cells' k fills t size file g =
     record {
       more = more;
       goes = subst (λ a. GoesOn file (s.left before) (s.left after) more old a cells' new) (sym t.answer)
-          (goes_by (s.left before) (s.left after) more old mid new cells cells' file g size f k.seeks.1 b k.same fills (t.phase_is ∙ ap phase_after t.answer));
+          (goes_by (s.left before) (s.left after) more old mid new cells cells' file g size f k.seeks.1 b k.same fills
+          (t.phase_is ∙ ap phase_after t.answer));
       taken = b.taken;
     }
 
@@ -306,7 +346,8 @@ whole_something r file len g h n =
     let one = ap length ahead.1 ∙ length-append (blocks_in c r.channels file) (map (frame_in c) whole.units ∷ []) in
     omega (arith, all, more, one)
 
-pub wrong_something : (r : StoreReader) (file : List ℕ) (w : StoreRefusal) → HasGiven file r → Looks r (held r) (sight.Refused w)
+pub wrong_something : (r : StoreReader) (file : List ℕ) (w : StoreRefusal) → HasGiven file r
+    → Looks r (held r) (sight.Refused w)
     → HoldsNothing file r → ⊥
 wrong_something r file w g h n =
     let wrong : BlockShows r.codec r.channels (length file) (held r) (sight.Refused w) =
@@ -325,13 +366,19 @@ counts_by old mid new more (Ok (found.Whole len)) cells cells' b under fills =
     let long : length (take len (held mid)) ≡ len = length-take-le len (held mid) under in
     let text = block_long mid.codec (take len (held mid)) cells' fills.0 in
     record { rises = omega (arith, rises, long, text); kept = fills.1 }
-counts_by old mid new more (Ok (found.Shown w)) cells cells' b under fills = record { rises = given_more more old new mid 0 b under; kept = fills }
-counts_by old mid new more (Ok (found.Cut w)) cells cells' b under fills = record { rises = given_more more old new mid 0 b under; kept = fills }
-counts_by old mid new more (Ok found.End) cells cells' b under fills = record { rises = given_more more old new mid 0 b under; kept = fills }
-counts_by old mid new more (Ok found.OverLimit) cells cells' b under fills = record { rises = given_more more old new mid 0 b under; kept = fills }
-counts_by old mid new more (Err e) cells cells' b under fills = record { rises = given_more more old new mid 0 b under; kept = fills }
+counts_by old mid new more (Ok (found.Shown w)) cells cells' b under fills = record
+    { rises = given_more more old new mid 0 b under; kept = fills }
+counts_by old mid new more (Ok (found.Cut w)) cells cells' b under fills = record
+    { rises = given_more more old new mid 0 b under; kept = fills }
+counts_by old mid new more (Ok found.End) cells cells' b under fills = record
+    { rises = given_more more old new mid 0 b under; kept = fills }
+counts_by old mid new more (Ok found.OverLimit) cells cells' b under fills = record
+    { rises = given_more more old new mid 0 b under; kept = fills }
+counts_by old mid new more (Err e) cells cells' b under fills = record
+    { rises = given_more more old new mid 0 b under; kept = fills }
 
-pub counts : {S : Type 0} (s : source.Ghosts S) (before after : S) (old mid new : StoreReader) (f : Result Found Failed) (r : Result Step Failed) (cells cells' : List Cell)
+pub counts : {S : Type 0} (s : source.Ghosts S) (before after : S) (old mid new : StoreReader)
+    (f : Result Found Failed) (r : Result Step Failed) (cells cells' : List Cell)
     → Sought s before after old f mid → FillsCells mid f cells cells' → Settles mid f r new
     → len_of f ≤ length (held mid) → Counts old cells r cells' new
 counts s before after old mid new f r cells cells' k fills t under =

@@ -43,7 +43,8 @@ shown_within codec channels limit a ys w h under =
     let file = a ++ ys in
     let over = ap (shown_refusal codec channels) (taken_front limit a ys under) ∙ h (take (limit - length a) ys) in
     let all = ap (λ s. first (s ∷ cut_refusal codec channels file ∷ [])) (h ys) in
-    elim (ltb limit (length file)) as (λ v. cond v (shown_refusal codec channels (take limit file)) (store_refusal codec channels file) ≡ Some w) [
+    elim (ltb limit (length file)) as (λ v. cond v (shown_refusal codec channels (take limit file))
+    (store_refusal codec channels file) ≡ Some w) [
       | true ↦ over
       | false ↦ all
     ]
@@ -52,7 +53,8 @@ cut_within : (codec : Codec) (channels limit : ℕ) (file : List ℕ) (w : Store
     → store_refusal codec channels file ≡ Some w → length file ≤ limit
     → refusal_within codec channels limit file ≡ Some w
 cut_within codec channels limit file w h under =
-    ap (λ v. cond v (shown_refusal codec channels (take limit file)) (store_refusal codec channels file)) (le-ltb limit (length file) under) ∙ h
+    ap (λ v. cond v (shown_refusal codec channels (take limit file)) (store_refusal codec channels file))
+    (le-ltb limit (length file) under) ∙ h
 
 -- a file that isn't refused has a header, and so has a longer one
 header_stays : (codec : Codec) (channels : ℕ) (file more : List ℕ) → store_refusal codec channels file ≡ None
@@ -61,7 +63,8 @@ header_stays codec channels file more is =
     let r = unrefused codec channels file is in
     let l = longer codec file more r.has in
     let has = l.headed.has in
-    let told : nat_eq (channels_told codec (file ++ more)) channels ≡ true = eq-eqb (channels_told codec (file ++ more)) channels (l.headed.told ∙ r.told) in
+    let told : nat_eq (channels_told codec (file ++ more)) channels ≡ true = eq-eqb
+    (channels_told codec (file ++ more)) channels (l.headed.told ∙ r.told) in
     λ i. has i && told i
 
 -- how many octets of the file came
@@ -91,7 +94,8 @@ header_by all (Some ys) more old new Ready fresh k taken same =
     let size = t.given_is.given_are in
     let under : length head ≤ limit_of old = omega (arith, limited, limit, size) in
     let codec = same.codec in let channels = same.channels in
-    let is : store_refusal old.codec old.channels head ≡ None = (λ i. store_refusal (sym codec i) (sym channels i) head) ∙ t.given_is.is_file in
+    let is : store_refusal old.codec old.channels head ≡ None =
+    (λ i. store_refusal (sym codec i) (sym channels i) head) ∙ t.given_is.is_file in
     let whole : held old ++ all ≡ head ++ (held new ++ ys) = ap (λ l. held old ++ l) k.0
     ∙ sym (append_assoc (held old) more ys) ∙ ap (λ l. l ++ ys) t.join ∙ append_assoc head (held new) ys in
     ap (λ f. has_header_of old.codec old.channels (take (limit_of old) f)) whole
@@ -130,11 +134,13 @@ header_by all (Some ys) more old new OverLimit fresh k taken same =
     let reached = k.3 in
     let limit_is = same.limit in
     let is : limit ≡ length (held new) = omega (arith, size, reached, limit_is) in
-    let whole : held old ++ all ≡ held new ++ x ∷ ys = seam [] (held old) more (held new) all (x ∷ ys) k.2 (k.1 ∙ append_assoc more (x ∷ []) ys) in
+    let whole : held old ++ all ≡ held new ++ x ∷ ys = seam [] (held old) more (held new) all (x ∷ ys) k.2
+    (k.1 ∙ append_assoc more (x ∷ []) ys) in
     let long = length-append (held new) (x ∷ ys) in
     subst (λ file. (limit < length file) × ShowsNoHeader c n (take limit file)) (sym whole) (
       omega (arith, is, long),
-      subst (ShowsNoHeader c n) (sym (ap (λ m. take m (held new ++ x ∷ ys)) is ∙ take-append_seam (held new) (x ∷ ys))) k.4,
+      subst (ShowsNoHeader c n) (sym (ap (λ m. take m (held new ++ x ∷ ys)) is
+          ∙ take-append_seam (held new) (x ∷ ys))) k.4,
     )
 
 -- the answers to the call for the header
@@ -142,7 +148,8 @@ pub header_exact : (left left' : Option (List ℕ)) (old new : StoreReader) (r :
     → Began left left' old r new → IsSameReader old new → TellsHeaderIn left old r
 header_exact None left' old new r fresh b same = tt
 header_exact (Some all) left' old new (Err e) fresh b same = tt
-header_exact (Some all) left' old new (Ok step) fresh b same = header_by all left' b.more old new step fresh b.begins b.taken same
+header_exact (Some all) left' old new (Ok step) fresh b same = header_by all left' b.more old new step fresh b.begins
+    b.taken same
 
 -- the next block in what is taken of the file
 next_is : (codec : Codec) (channels limit : ℕ) (front block behind : List ℕ) (frames : List Frame) → 1 ≤ channels
@@ -159,7 +166,8 @@ next_is codec channels limit front block behind frames one under e =
           ∙ append_assoc (blocks_in codec channels front) (frames ∷ []) stay.0;
     }
 
-next_by : (front all : List ℕ) (left' : Option (List ℕ)) (more : List ℕ) (old new : StoreReader) (cells : List Cell) (step : Step) → HasGiven front old
+next_by : (front all : List ℕ) (left' : Option (List ℕ)) (more : List ℕ) (old new : StoreReader) (cells : List Cell)
+    (step : Step) → HasGiven front old
     → GoesOn front (Some all) left' more old (Ok step) cells new → taken_of new ≡ taken_of old + length more
     → IsSameReader old new
     → TellsNext old.codec old.channels (limit_of old) front (front ++ (held old ++ all)) cells step
@@ -172,10 +180,12 @@ next_by front all (Some ys) more old new cells Ready g k taken same =
     let under : length (front ++ t.block) ≤ limit_of old = omega (arith, limited, limit, size) in
     let whole : front ++ (held old ++ all) ≡ (front ++ t.block) ++ (held new ++ ys) =
     ap (λ l. front ++ (held old ++ l)) k.0
-    ∙ ap (λ l. front ++ l) (sym (append_assoc (held old) more ys) ∙ ap (λ l. l ++ ys) t.join ∙ append_assoc t.block (held new) ys)
+    ∙ ap (λ l. front ++ l) (sym (append_assoc (held old) more ys) ∙ ap (λ l. l ++ ys) t.join
+    ∙ append_assoc t.block (held new) ys)
     ∙ sym (append_assoc front t.block (held new ++ ys)) in
     subst (λ file. IsNextBlock old.codec old.channels (limit_of old) front file (frames_of cells)) (sym whole)
-    (next_is old.codec old.channels (limit_of old) front t.block (held new ++ ys) (frames_of cells) old.some under t.blocks)
+    (next_is old.codec old.channels (limit_of old) front t.block (held new ++ ys) (frames_of cells) old.some under
+    t.blocks)
 next_by front all left' more old new cells End g k taken same =
     ap (λ l. front ++ (held old ++ l)) k.1 ∙ ap (λ l. front ++ l) k.2 ∙ append-nil front
 next_by front all None more old new cells (Refused w) g k taken same = absurd k.0
@@ -213,7 +223,8 @@ next_by front all (Some ys) more old new cells OverLimit g k taken same =
     let reached = k.3 in
     let limit_is = same.limit in
     let is : limit ≡ length now = omega (arith, size, reached, limit_is) in
-    let whole : front ++ (held old ++ all) ≡ now ++ x ∷ ys = seam front (held old) more (held new) all (x ∷ ys) k.2 (k.1 ∙ append_assoc more (x ∷ []) ys) in
+    let whole : front ++ (held old ++ all) ≡ now ++ x ∷ ys = seam front (held old) more (held new) all (x ∷ ys) k.2
+    (k.1 ∙ append_assoc more (x ∷ []) ys) in
     let long = length-append now (x ∷ ys) in
     subst (λ file. (limit < length file) × ShowsNothing c n front (take limit file)) (sym whole) (
       omega (arith, is, long),
@@ -221,8 +232,10 @@ next_by front all (Some ys) more old new cells OverLimit g k taken same =
     )
 
 -- the answers to a call for the next block
-pub next_exact : (front : List ℕ) (left left' : Option (List ℕ)) (old new : StoreReader) (r : Result Step Failed) (cells : List Cell) → HasGiven front old
+pub next_exact : (front : List ℕ) (left left' : Option (List ℕ)) (old new : StoreReader) (r : Result Step Failed)
+    (cells : List Cell) → HasGiven front old
     → WentOn front left left' old r cells new → IsSameReader old new → TellsNextIn left front old r cells
 next_exact front None left' old new r cells g w same = tt
 next_exact front (Some all) left' old new (Err e) cells g w same = tt
-next_exact front (Some all) left' old new (Ok step) cells g w same = next_by front all left' w.more old new cells step g w.goes w.taken same
+next_exact front (Some all) left' old new (Ok step) cells g w same = next_by front all left' w.more old new cells step
+    g w.goes w.taken same

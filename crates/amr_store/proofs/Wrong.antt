@@ -49,12 +49,67 @@ row_has (x ∷ xs) zero d h e = h.0
 row_has (x ∷ xs) (suc i) d h e = row_has xs i d h.1 e
 
 all_rows : (codec : Codec) → AllByRecursion HasNone (rows codec)
-all_rows Amr = (λ e. cc, (λ e. cc, (λ e. cc, (λ e. cc, (λ e. cc, (λ e. cc, (λ e. cc, (λ e. cc, (λ e. cc, (λ e. refl, (λ e. refl, (λ e. refl, (λ e. refl, (λ e. refl, (λ e. refl, (λ e. cc, tt))))))))))))))))
-all_rows AmrWb = (λ e. cc, (λ e. cc, (λ e. cc, (λ e. cc, (λ e. cc, (λ e. cc, (λ e. cc, (λ e. cc, (λ e. cc, (λ e. cc, (λ e. refl, (λ e. refl, (λ e. refl, (λ e. refl, (λ e. cc, (λ e. cc, tt))))))))))))))))
+all_rows Amr = (
+  λ e. cc,
+  (
+    λ e. cc,
+    (
+      λ e. cc,
+      (
+        λ e. cc,
+        (
+          λ e. cc,
+          (
+            λ e. cc,
+            (
+              λ e. cc,
+              (
+                λ e. cc,
+                (
+                  λ e. cc,
+                  (λ e. refl, (λ e. refl, (λ e. refl, (λ e. refl, (λ e. refl, (λ e. refl, (λ e. cc, tt))))))),
+                ),
+              ),
+            ),
+          ),
+        ),
+      ),
+    ),
+  ),
+)
+all_rows AmrWb = (
+  λ e. cc,
+  (
+    λ e. cc,
+    (
+      λ e. cc,
+      (
+        λ e. cc,
+        (
+          λ e. cc,
+          (
+            λ e. cc,
+            (
+              λ e. cc,
+              (
+                λ e. cc,
+                (
+                  λ e. cc,
+                  (λ e. cc, (λ e. refl, (λ e. refl, (λ e. refl, (λ e. refl, (λ e. cc, (λ e. cc, tt))))))),
+                ),
+              ),
+            ),
+          ),
+        ),
+      ),
+    ),
+  ),
+)
 
 reserved_empty : (codec : Codec) (ft : ℕ) → is_reserved codec ft ≡ true → octets_in codec ft ≡ 0
 reserved_empty codec ft e =
-    let none : bits_in codec ft ≡ 0 = row_has (rows codec) ft (record { kind = Reserved; bits = 0; class_a = 0 }) (all_rows codec) (λ _. refl) e in
+    let none : bits_in codec ft ≡ 0 = row_has (rows codec) ft (record { kind = Reserved; bits = 0; class_a = 0 })
+    (all_rows codec) (λ _. refl) e in
     ap octets_for none
 
 -- the last of a list is the first that passes
@@ -72,7 +127,8 @@ last_found p xs y h e =
     ap (λ n. cond (ltb n (length (xs ++ y ∷ []))) (Some n) None) (last_passes p xs y h e)
     ∙ ap (λ b. cond b (Some (length xs)) None) (lt-ltb (length xs) (length (xs ++ y ∷ [])) (omega (arith, l)))
 
-module _ (codec : Codec) (channels : ℕ) (file : List ℕ) (one : 1 ≤ channels) (is : store_refusal codec channels file ≡ None) where
+module _ (codec : Codec) (channels : ℕ) (file : List ℕ) (one : 1 ≤ channels)
+    (is : store_refusal codec channels file ≡ None) where
   -- the units of a file up to a frame of a reserved type
   cut_before : (block : List ℕ) (us : List (List ℕ)) (o : ℕ) → AreUnits codec us block
       → is_reserved codec (unit_type (o ∷ [])) ≡ true
@@ -80,10 +136,12 @@ module _ (codec : Codec) (channels : ℕ) (file : List ℕ) (one : 1 ≤ channel
   cut_before block us o u e =
       let unit = o ∷ [] in
       let ws = whole_of codec file in
-      let whole : is_unit codec unit ≡ true = eq-eqb 1 (1 + octets_in codec (unit_type unit)) (let z = reserved_empty codec (unit_type unit) e in omega (arith, z)) in
+      let whole : is_unit codec unit ≡ true = eq-eqb 1 (1 + octets_in codec (unit_type unit))
+      (let z = reserved_empty codec (unit_type unit) e in omega (arith, z)) in
       units_go_on codec channels file (block ++ unit) is
       ∙ fold-append (with_octet codec) (state ws []) block unit
-      ∙ ap (λ (v : Units). fold (with_octet codec) v unit) (ap (fold (with_octet codec) (state ws [])) u.join ∙ all codec ws us u.whole)
+      ∙ ap (λ (v : Units). fold (with_octet codec) v unit)
+      (ap (fold (with_octet codec) (state ws [])) u.join ∙ all codec ws us u.whole)
       ∙ all codec (ws ++ us) (unit ∷ []) (whole, tt)
 
   -- the frames before it
@@ -98,7 +156,8 @@ module _ (codec : Codec) (channels : ℕ) (file : List ℕ) (one : 1 ≤ channel
       let ws = whole_of codec file in
       let zs = ws ++ us in
       let cut = cut_before block us o u e in
-      let none = all_append (λ v. is_reserved_unit codec v ≡ false) ws us (none_passes (is_reserved_unit codec) ws r.known) u.known in
+      let none = all_append (λ v. is_reserved_unit codec v ≡ false) ws us
+      (none_passes (is_reserved_unit codec) ws r.known) u.known in
       let found : first_reserved codec (units_in codec front).whole ≡ Some (length zs) =
       ap (λ (v : Units). first_reserved codec v.whole) cut ∙ last_found (is_reserved_unit codec) zs unit none e in
       let stays = (reserved_stays codec front more (length zs) l.headed.has found).0 in
@@ -117,7 +176,8 @@ module _ (codec : Codec) (channels : ℕ) (file : List ℕ) (one : 1 ≤ channel
       let r = unrefused codec channels file is in
       let l = longer codec file more r.has in
       let has = l.headed.has in
-      let told : nat_eq (channels_told codec (file ++ more)) channels ≡ true = eq-eqb (channels_told codec (file ++ more)) channels (l.headed.told ∙ r.told) in
+      let told : nat_eq (channels_told codec (file ++ more)) channels ≡ true = eq-eqb
+      (channels_told codec (file ++ more)) channels (l.headed.told ∙ r.told) in
       λ i. cond (has i && told i) (blocks_of channels (frames_in codec (file ++ more))) []
 
   -- there is no block more
@@ -198,14 +258,19 @@ not_by (Some k) place type e = cc
 not_magic : (codec : Codec) (channels : ℕ) (file : List ℕ) → has_header codec file ≡ true
     → channels_told codec file ≡ channels → shown_refusal codec channels file ≡ Some why.Magic → ⊥
 not_magic codec channels file has told e =
-    let magic : has_magic codec file ≡ true = (and_true (has_magic codec file) (not (ltb (length file) (header_len codec file))) has).0 in
+    let magic : has_magic codec file ≡ true = (and_true (has_magic codec file)
+    (not (ltb (length file) (header_len codec file))) has).0 in
     let same : nat_eq (channels_told codec file) channels ≡ true = eq-eqb (channels_told codec file) channels told in
     let us = (units_in codec file).whole in
-    let t1 : when (not (has_magic codec file) && not (may_have_magic codec file)) why.Magic ≡ None = ap (λ v. when (not v && not (may_have_magic codec file)) why.Magic) magic in
-    let t2 : when (has_header codec file && not (nat_eq (channels_told codec file) channels)) (why.Channels (channels_told codec file)) ≡ None =
+    let t1 : when (not (has_magic codec file) && not (may_have_magic codec file)) why.Magic ≡ None = ap
+    (λ v. when (not v && not (may_have_magic codec file)) why.Magic) magic in
+    let t2 : when (has_header codec file && not (nat_eq (channels_told codec file) channels))
+    (why.Channels (channels_told codec file)) ≡ None =
     (λ i. when (has i && not (same i)) (why.Channels (channels_told codec file))) in
-    let rest = option_map (λ k. why.Reserved (unit_place codec file k) (slice_index (map unit_type us) k)) (first_reserved codec us) in
-    not_by (first_reserved codec us) (unit_place codec file) (slice_index (map unit_type us)) ((λ i. first (sym t1 i ∷ sym t2 i ∷ rest ∷ [])) ∙ e)
+    let rest = option_map (λ k. why.Reserved (unit_place codec file k) (slice_index (map unit_type us) k))
+    (first_reserved codec us) in
+    not_by (first_reserved codec us) (unit_place codec file) (slice_index (map unit_type us))
+    ((λ i. first (sym t1 i ∷ sym t2 i ∷ rest ∷ [])) ∙ e)
 
 is_magic : (b : Bool) (w : StoreRefusal) → first (when b why.Magic ∷ None ∷ None ∷ []) ≡ Some w → why.Magic ≡ w
 is_magic true w e = ap (λ o. unwrap_or o w) e
@@ -215,11 +280,16 @@ is_magic false w e = absurd cc
 lacks_magic : (codec : Codec) (channels : ℕ) (file : List ℕ) (w : StoreRefusal) → has_header codec file ≡ false
     → shown_refusal codec channels file ≡ Some w → why.Magic ≡ w
 lacks_magic codec channels file w f e =
-    let none : units_in codec file ≡ state [] [] = ap (λ v. units codec (cond v (drop (header_len codec file) file) [])) f in
-    let place = λ (k : ℕ). why.Reserved (unit_place codec file k) (slice_index (map unit_type (units_in codec file).whole) k) in
-    let c : when (has_header codec file && not (nat_eq (channels_told codec file) channels)) (why.Channels (channels_told codec file)) ≡ None =
-    ap (λ v. when (v && not (nat_eq (channels_told codec file) channels)) (why.Channels (channels_told codec file))) f in
-    let d : option_map place (first_reserved codec (units_in codec file).whole) ≡ None = ap (λ (u : Units). option_map place (first_reserved codec u.whole)) none in
+    let none : units_in codec file ≡ state [] [] = ap
+    (λ v. units codec (cond v (drop (header_len codec file) file) [])) f in
+    let place = λ (k : ℕ). why.Reserved (unit_place codec file k)
+    (slice_index (map unit_type (units_in codec file).whole) k) in
+    let c : when (has_header codec file && not (nat_eq (channels_told codec file) channels))
+    (why.Channels (channels_told codec file)) ≡ None =
+    ap (λ v. when (v && not (nat_eq (channels_told codec file) channels)) (why.Channels (channels_told codec file))) f
+    in
+    let d : option_map place (first_reserved codec (units_in codec file).whole) ≡ None = ap
+    (λ (u : Units). option_map place (first_reserved codec u.whole)) none in
     let t = not (has_magic codec file) && not (may_have_magic codec file) in
     is_magic t w ((λ i. first (when t why.Magic ∷ sym c i ∷ sym d i ∷ [])) ∙ e)
 
@@ -232,13 +302,15 @@ no_header_more codec channels file more w h has told =
     elim (has_header codec file) as (λ v. has_header codec file ≡ v → ⊥) [
       | true ↦ λ f.
           let l = longer codec file more f in
-          let same : nat_eq (channels_told codec file) channels ≡ true = eq-eqb (channels_told codec file) channels (sym l.headed.told ∙ told) in
+          let same : nat_eq (channels_told codec file) channels ≡ true = eq-eqb (channels_told codec file) channels
+          (sym l.headed.told ∙ told) in
           let wrong = h.wrong in
           let z : true ≡ false = (λ i. sym f i && sym same i) ∙ wrong in
           cc
       | false ↦ λ f.
           let m = lacks_magic codec channels file w f h.shown in
-          not_magic codec channels all' has told (shown_more codec channels file more w h.shown ∙ ap (λ v. Some v) (sym m))
+          not_magic codec channels all' has told (shown_more codec channels file more w h.shown
+          ∙ ap (λ v. Some v) (sym m))
     ] refl
 
 pub wrong_header_more : (codec : Codec) (channels : ℕ) (file more : List ℕ) (w : StoreRefusal)

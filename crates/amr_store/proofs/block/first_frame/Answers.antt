@@ -13,8 +13,10 @@ returns-then-eq c =
     let octets = c.args.octets.now in
     let ft = get_or octets 0 0 / 8 % 16 in
     let reserved : is_reserved c.args.codec ft ≡ true =
-    same_kind (kind_in c.args.codec ft) true (sym c.if-eq.true ∙ c.eq.ensures ∙ ap (λ k. sameb the_type k Reserved) c.kind_of.ensures) in
-    holds_reserved c.args.codec octets (some_by octets c.if-is_empty.ensures) (omega (arith, c.type_inv.octets 0)) reserved
+    same_kind (kind_in c.args.codec ft) true (sym c.if-eq.true ∙ c.eq.ensures
+    ∙ ap (λ k. sameb the_type k Reserved) c.kind_of.ensures) in
+    holds_reserved c.args.codec octets (some_by octets c.if-is_empty.ensures) (omega (arith, c.type_inv.octets 0))
+    reserved
 
 pub returns-then-size-octets : goal.returns-then-size-octets
 returns-then-size-octets c =
@@ -22,6 +24,8 @@ returns-then-size-octets c =
     let ft = get_or octets 0 0 / 8 % 16 in
     let size : c.octets_of-size.result ≡ octets_in c.args.codec ft = c.octets_of-size.ensures in
     let known : is_reserved c.args.codec ft ≡ false =
-    same_kind (kind_in c.args.codec ft) false (sym c.if-eq.false ∙ c.eq.ensures ∙ ap (λ k. sameb the_type k Reserved) c.kind_of.ensures) in
+    same_kind (kind_in c.args.codec ft) false (sym c.if-eq.false ∙ c.eq.ensures
+    ∙ ap (λ k. sameb the_type k Reserved) c.kind_of.ensures) in
     subst (λ n. HoldsFrame c.args.codec octets (1 + n)) (sym size)
-    (holds_frame c.args.codec octets (some_by octets c.if-is_empty.ensures) (omega (arith, c.type_inv.octets 0)) known (omega (arith, size, c.if-size-octets.true)))
+    (holds_frame c.args.codec octets (some_by octets c.if-is_empty.ensures) (omega (arith, c.type_inv.octets 0)) known
+    (omega (arith, size, c.if-size-octets.true)))

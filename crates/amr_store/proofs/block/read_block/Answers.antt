@@ -11,14 +11,17 @@ pub read_frame-cell-requires : goal.read_frame-cell-requires
 read_frame-cell-requires c =
     let octets = c.args.octets.now in
     subst (BeginsFrame c.args.codec) (sym (take_rest octets c.loop-k.at))
-    (fill_next c.args.codec octets (length c.args.cells.now) c.loop-k.at c.loop-k.k c.loop-k.cells c.loop-k.invariant (omega arith))
+    (fill_next c.args.codec octets (length c.args.cells.now) c.loop-k.at c.loop-k.k c.loop-k.cells c.loop-k.invariant
+    (omega arith))
 
 pub loop-k-preserved : goal.loop-k-preserved
 loop-k-preserved c =
     let octets = c.args.octets.now in
     let cell = c.read_frame-cell.result in
     let read = subst (λ l. ReadsFrame c.args.codec l cell) (take_rest octets c.loop-k.at) c.read_frame-cell.ensures in
-    (fill_more c.args.codec octets (length c.args.cells.now) c.loop-k.at c.loop-k.k c.octets_of.result c.loop-k.cells cell c.loop-k.invariant (omega arith) read c.octets_of.ensures).1
+    (fill_more c.args.codec octets (length c.args.cells.now) c.loop-k.at c.loop-k.k c.octets_of.result c.loop-k.cells
+    cell c.loop-k.invariant (omega arith) read c.octets_of.ensures).1
 
 pub returns : goal.returns
-returns c = fill_end c.args.codec c.args.octets.now (length c.args.cells.now) c.loop-k.at c.loop-k.k c.loop-k.cells c.loop-k.invariant c.loop-k-test.false
+returns c = fill_end c.args.codec c.args.octets.now (length c.args.cells.now) c.loop-k.at c.loop-k.k c.loop-k.cells
+    c.loop-k.invariant c.loop-k-test.false

@@ -10,7 +10,9 @@ invariant_of-bits c =
 
 pub returns : goal.returns
 returns c = record {
-  frame = λ unit more first. c.from_bits.ensures.fields ∙ frame_same c.args.codec c.args.octets.now unit more c.bits_of.result (λ k. omega (arith, c.type_inv.octets k)) first c.bits_of.ensures;
+  frame = λ unit more first. c.from_bits.ensures.fields
+      ∙ frame_same c.args.codec c.args.octets.now unit more c.bits_of.result (λ k. omega (arith, c.type_inv.octets k))
+      first c.bits_of.ensures;
   valid = c.from_bits.ensures.of_codec;
   present = c.from_bits.ensures.present;
 }

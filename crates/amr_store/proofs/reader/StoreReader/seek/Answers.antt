@@ -14,7 +14,16 @@ returns-in-Refused g c =
     let stays = given_stays c.args.self.now c.seeking.self so_far.0 so_far.2 so_far.3 in
     record {
       sought = record {
-        seeks = (so_far.0, (so_far.1, looks_same c.args.self.now c.seeking.self (held c.seeking.self) _ kept.phase_is kept.same stays c.in-Refused.ensures), so_far.2, so_far.3);
+        seeks = (
+          so_far.0,
+          (
+            so_far.1,
+            looks_same c.args.self.now c.seeking.self (held c.seeking.self) _ kept.phase_is
+                kept.same stays c.in-Refused.ensures,
+          ),
+          so_far.2,
+          so_far.3,
+        );
         quiet = quiet_ok (found.Shown c.in-Refused.why) kept.quiet;
         phase_is = kept.phase_is;
         same = kept.same;
@@ -33,7 +42,8 @@ returns-in-Whole g c =
           so_far.0,
           (
             so_far.1,
-            looks_same c.args.self.now c.seeking.self (held c.seeking.self) _ kept.phase_is kept.same stays c.in-Whole.ensures,
+            looks_same c.args.self.now c.seeking.self (held c.seeking.self) _ kept.phase_is kept.same stays
+                c.in-Whole.ensures,
             kept.still,
           ),
           so_far.2,
@@ -53,10 +63,16 @@ seeking-preserved g c =
     let tank = filled.6 in
     let so_far = kept.so_far in
     let stays = given_stays c.args.self.now c.seeking.self so_far.0 so_far.2 so_far.3 in
-    let part = looks_same c.args.self.now c.seeking.self (held c.seeking.self) _ kept.phase_is kept.same stays c.in-Part.ensures in
+    let part = looks_same c.args.self.now c.seeking.self (held c.seeking.self) _ kept.phase_is kept.same stays
+    c.in-Part.ensures in
     record {
       phase_is = kept.phase_is;
-      same = record { codec = kept.same.codec; channels = kept.same.channels; limit = ap (λ t. t.limit) tank ∙ kept.same.limit };
+      same = record {
+        codec = kept.same.codec;
+        channels = kept.same.channels;
+        limit = ap (λ t. t.limit) tank
+            ∙ kept.same.limit;
+      };
       still = ap (λ t. t.gate) tank ∙ kept.still;
       faults = c.in_ok-fill.ensures.cause ∙ kept.faults;
       so_far = (
@@ -79,9 +95,16 @@ returns-in-End g c =
     let stays = given_stays old now so_far.0 so_far.2 so_far.3 in
     let part = looks_same old now (held now) _ kept.phase_is kept.same stays c.in-Part.ensures in
     record {
-      sought = end_sought g.S.Source c.args.source.now c.seeking.source c.fill.new.source old now _ so_far.0 c.in-Part.at c.end.result
-          kept.phase_is (record { codec = kept.same.codec; channels = kept.same.channels; limit = ap (λ t. t.limit) tank ∙ kept.same.limit }) (ap (λ t. t.held) tank)
-          so_far.1 ended.0 ended.1 so_far.2 (ap (λ t. t.taken) tank ∙ so_far.3) kept.quiet part c.end.ensures (c.in_ok-fill.ensures.cause ∙ kept.faults);
+      sought = end_sought g.S.Source c.args.source.now c.seeking.source c.fill.new.source old now _ so_far.0
+          c.in-Part.at c.end.result
+          kept.phase_is (record {
+            codec = kept.same.codec;
+            channels = kept.same.channels;
+            limit = ap (λ t. t.limit)
+                tank ∙ kept.same.limit;
+          }) (ap (λ t. t.held) tank)
+          so_far.1 ended.0 ended.1 so_far.2 (ap (λ t. t.taken) tank ∙ so_far.3) kept.quiet part c.end.ensures
+          (c.in_ok-fill.ensures.cause ∙ kept.faults);
     }
 
 pub returns-in-OverLimit : goal.returns-in-OverLimit
@@ -110,7 +133,12 @@ returns-in-OverLimit g c =
         );
         quiet = inr (quiet_on old now kept.quiet (c.in-Part.at, part));
         phase_is = kept.phase_is;
-        same = record { codec = kept.same.codec; channels = kept.same.channels; limit = ap (λ t. t.limit) tank ∙ kept.same.limit };
+        same = record {
+          codec = kept.same.codec;
+          channels = kept.same.channels;
+          limit = ap (λ t. t.limit) tank
+              ∙ kept.same.limit;
+        };
         cause = c.in_ok-fill.ensures.cause ∙ kept.faults;
       };
     }

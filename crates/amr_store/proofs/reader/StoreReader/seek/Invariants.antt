@@ -13,7 +13,8 @@ invariant-seeking g l = record {
   faults : g.S.Source.faults l.source ≡ g.S.Source.faults l.initial.source;
   so_far : (more : List ℕ) × Consumes (g.S.Source.left l.initial.source) (g.S.Source.left l.source) more
       × (held l.initial.self ++ more ≡ held l.self) × (l.self.inlet.taken ≡ l.initial.self.inlet.taken + length more);
-  quiet : ((l.source ≡ l.initial.source) × (held l.self ≡ held l.initial.self)) ⊎ LooksPart l.initial.self (held l.initial.self);
+  quiet : ((l.source ≡ l.initial.source) × (held l.self ≡ held l.initial.self)) ⊎ LooksPart l.initial.self
+      (held l.initial.self);
 }
 
 abbrev pub decreases-seeking : goal.decreases-seeking
