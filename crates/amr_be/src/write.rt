@@ -1,8 +1,9 @@
-ghost use Rattle.std.specs.Prelude.{◌≡◌, ◌+◌, ◌*◌, ◌^◌, ◌≤◌, ◌<◌, false, length};
+ghost use Rattle.std.specs.Prelude.{◌≡◌, ◌+◌, ◌*◌, ◌^◌, ◌≤◌, ◌<◌, length};
+ghost use Rattle.amr_be.specs.Carried.{CarriesPacked, CarriesPackedInto};
 ghost use Rattle.amr_be.specs.Parts.{HaveTypes, body_part, table_part};
 ghost use Rattle.amr_frame.specs.Blocks.{frames_of};
 ghost use Rattle.amr_toc.specs.Behind.{WrittenBehind};
-ghost use Rattle.amr_toc.specs.Payloads.{Carries, CarriesInto, IsSize, meant};
+ghost use Rattle.amr_toc.specs.Payloads.{IsSize, meant};
 ghost use Rattle.spec_payload.specs.Grammar.{text};
 
 use amr_bits::BitWriter;
@@ -11,8 +12,7 @@ use amr_toc::{Entry, Payload, entries_within, put_entry};
 
 /// How many octets a bandwidth-efficient payload has.
 pub fn size_be(profile: &Profile, payload: &Payload<'_>) -> usize
-    requires packed { profile.now.octet_aligned ≡ false }
-    requires payload { Carries profile.now payload.now }
+    requires { CarriesPacked profile.now payload.now }
     ensures { IsSize profile.now payload.now 23185 result }
 {
     entries_within(profile);
@@ -34,8 +34,7 @@ fn body_bits(cells: &[Cell]) -> usize
 
 /// Writes a bandwidth-efficient payload, with the pad bits 0. All of `out` is then the payload.
 pub fn write_be(profile: &Profile, payload: &Payload<'_>, out: &mut [u8])
-    requires packed { profile.now.octet_aligned ≡ false }
-    requires payload { CarriesInto profile.now payload.now out.old }
+    requires { CarriesPackedInto profile.now payload.now out.old }
     ensures { out.new ≡ text profile.now (meant payload.now) }
 {
     entries_within(profile);

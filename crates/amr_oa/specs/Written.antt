@@ -1,5 +1,5 @@
 -- The octets of an octet-aligned payload that is written, part by part (RFC 4867, 4.4).
-use Rattle.std.specs.Prelude.{ℕ, ◌+◌, ◌-◌, ◌*◌, Bool, true, false, cond, ◌&&◌, nat_lt, max, List, [], ◌∷◌, ◌++◌, length, slice_index, flat_map, fold, Option, Some, None}
+use Rattle.std.specs.Prelude.{◌≡◌, ℕ, ◌+◌, ◌-◌, ◌*◌, Bool, true, false, cond, ◌&&◌, nat_lt, max, List, [], ◌∷◌, ◌++◌, length, slice_index, flat_map, fold, take, Option, Some, None}
 use Rattle.std.specs.List.{range_with_len}
 use Rattle.amr_bits.specs.Bits.{filled, octets_for}
 use Rattle.amr_frame.specs.declared.profile.Profile.{Profile}
@@ -68,3 +68,8 @@ body_part true frames = sorted_part frames
 abbrev pub written_as : Profile → Value → List ℕ
 written_as p v = header_part p v ++ table_part v.frames ++ checks_part p v.frames
     ++ body_part p.sorting v.frames
+
+-- these octets were written from `start` on, behind those that stood before, and end at `end`
+pub record PutAt (old : List ℕ) (start : ℕ) (part new : List ℕ) (end : ℕ) : Type 0 where
+  pub at : end ≡ start + length part
+  pub octets : take end new ≡ take start old ++ part

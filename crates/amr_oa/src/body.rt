@@ -5,7 +5,7 @@ ghost use Rattle.amr_bits.specs.Bits.{octets_for};
 ghost use Rattle.amr_bits.specs.Runs.{kept};
 ghost use Rattle.amr_frame.specs.Blocks.{frames_of};
 ghost use Rattle.amr_frame.specs.Cells.{frame_of};
-ghost use Rattle.amr_oa.specs.Written.{body_part, frame_part, longest_of, octet_part, plain_part, row_part, sorted_part};
+ghost use Rattle.amr_oa.specs.Written.{PutAt, body_part, frame_part, longest_of, octet_part, plain_part, row_part, sorted_part};
 
 use amr_frame::{Cell, Profile};
 
@@ -47,8 +47,7 @@ pub(crate) fn put_bodies(profile: &Profile, cells: &[Cell], start: usize, out: &
 /// Writes the frames of cells one behind the other, and gives the place behind them.
 fn put_plain(cells: &[Cell], start: usize, out: &mut [u8]) -> usize
     requires { start + length (plain_part (frames_of cells.now)) ≤ length out.old }
-    ensures at { result ≡ start + length (plain_part (frames_of cells.now)) }
-    ensures octets { take result out.new ≡ take start out.old ++ plain_part (frames_of cells.now) }
+    ensures { PutAt out.old start (plain_part (frames_of cells.now)) out.new result }
 {
     let mut at = start;
     for cell in cells {
@@ -60,8 +59,7 @@ fn put_plain(cells: &[Cell], start: usize, out: &mut [u8]) -> usize
 /// Writes the frame of a cell at an octet, and gives the place behind it.
 fn put_frame(cell: &Cell, at: usize, out: &mut [u8]) -> usize
     requires { at + length (frame_part (frame_of cell.now)) ≤ length out.old }
-    ensures at { result ≡ at + length (frame_part (frame_of cell.now)) }
-    ensures octets { take result out.new ≡ take at out.old ++ frame_part (frame_of cell.now) }
+    ensures { PutAt out.old at (frame_part (frame_of cell.now)) out.new result }
 {
     let end = at + octets_in(cell);
     cell.bits.as_bits().copy_to(&mut out[at..end]);
@@ -71,8 +69,7 @@ fn put_frame(cell: &Cell, at: usize, out: &mut [u8]) -> usize
 /// Writes the frames of cells in the robust order, and gives the place behind them.
 fn put_sorted(cells: &[Cell], start: usize, out: &mut [u8]) -> usize
     requires { start + length (sorted_part (frames_of cells.now)) ≤ length out.old }
-    ensures at { result ≡ start + length (sorted_part (frames_of cells.now)) }
-    ensures octets { take result out.new ≡ take start out.old ++ sorted_part (frames_of cells.now) }
+    ensures { PutAt out.old start (sorted_part (frames_of cells.now)) out.new result }
 {
     let mut at = start;
     for octet in 0..longest(cells) {
@@ -95,9 +92,7 @@ fn longest(cells: &[Cell]) -> usize
 /// Writes octet `octet` of each cell that has one, and gives the place behind them.
 fn put_row(cells: &[Cell], octet: usize, start: usize, out: &mut [u8]) -> usize
     requires { start + length (row_part (frames_of cells.now) octet) ≤ length out.old }
-    ensures at { result ≡ start + length (row_part (frames_of cells.now) octet) }
-    ensures octets { take result out.new
-        ≡ take start out.old ++ row_part (frames_of cells.now) octet }
+    ensures { PutAt out.old start (row_part (frames_of cells.now) octet) out.new result }
 {
     let mut at = start;
     for cell in cells {
@@ -109,8 +104,7 @@ fn put_row(cells: &[Cell], octet: usize, start: usize, out: &mut [u8]) -> usize
 /// Writes octet `octet` of a cell at an octet, where it has one, and gives the place behind it.
 fn put_octet(cell: &Cell, octet: usize, at: usize, out: &mut [u8]) -> usize
     requires { at + length (octet_part octet (frame_of cell.now)) ≤ length out.old }
-    ensures at { result ≡ at + length (octet_part octet (frame_of cell.now)) }
-    ensures octets { take result out.new ≡ take at out.old ++ octet_part octet (frame_of cell.now) }
+    ensures { PutAt out.old at (octet_part octet (frame_of cell.now)) out.new result }
 {
     if octets_in(cell) <= octet {
         return at;

@@ -1,10 +1,11 @@
-ghost use Rattle.std.specs.Prelude.{◌≡◌, ◌+◌, ◌≤◌, ◌<◌, ◌++◌, ◌∷◌, [], cond, is_some, length, slice_index, take, true, ℕ};
+ghost use Rattle.std.specs.Prelude.{◌≡◌, ◌+◌, ◌≤◌, ◌<◌, ◌++◌, ◌∷◌, [], cond, is_some, length, slice_index, take, ℕ};
 ghost use Rattle.std.specs.List.{AllByRecursion};
 ghost use Rattle.amr_frame.specs.Blocks.{frames_of};
 ghost use Rattle.amr_frame.specs.Cells.{frame_of};
 ghost use Rattle.amr_frame.specs.Frames.{IsFrame};
-ghost use Rattle.amr_oa.specs.Written.{check_part, checks_part, entry_octet, header_part, table_part};
-ghost use Rattle.amr_toc.specs.Payloads.{Carries, CarriesInto, IsSize, meant};
+ghost use Rattle.amr_oa.specs.Carried.{CarriesAligned, CarriesAlignedInto};
+ghost use Rattle.amr_oa.specs.Written.{PutAt, check_part, checks_part, entry_octet, header_part, table_part};
+ghost use Rattle.amr_toc.specs.Payloads.{IsSize, meant};
 ghost use Rattle.spec_payload.specs.Grammar.{check_of, text};
 
 use crate::body::{body_octets, put_bodies};
@@ -13,8 +14,7 @@ use amr_toc::{Payload, are_octets, check_over, entries_within, header_octets};
 
 /// How many octets an octet-aligned payload has.
 pub fn size_oa(profile: &Profile, payload: &Payload<'_>) -> usize
-    requires aligned { profile.now.octet_aligned ≡ true }
-    requires payload { Carries profile.now payload.now }
+    requires { CarriesAligned profile.now payload.now }
     ensures { IsSize profile.now payload.now 23810 result }
 {
     entries_within(profile);
@@ -46,8 +46,7 @@ fn has_check(profile: &Profile, cell: &Cell) -> bool
 
 /// Writes an octet-aligned payload, with the free bits 0. All of `out` is then the payload.
 pub fn write_oa(profile: &Profile, payload: &Payload<'_>, out: &mut [u8])
-    requires aligned { profile.now.octet_aligned ≡ true }
-    requires payload { CarriesInto profile.now payload.now out.old }
+    requires { CarriesAlignedInto profile.now payload.now out.old }
     ensures { out.new ≡ text profile.now (meant payload.now) }
 {
     entries_within(profile);
@@ -102,9 +101,7 @@ fn put_checks(profile: &Profile, cells: &[Cell], start: usize, out: &mut [u8]) -
     requires frames { AllByRecursion (IsFrame profile.now.codec) (frames_of cells.now) }
     requires fits { start + length (checks_part profile.now (frames_of cells.now))
         ≤ length out.old }
-    ensures at { result ≡ start + length (checks_part profile.now (frames_of cells.now)) }
-    ensures octets { take result out.new
-        ≡ take start out.old ++ checks_part profile.now (frames_of cells.now) }
+    ensures { PutAt out.old start (checks_part profile.now (frames_of cells.now)) out.new result }
 {
     let mut at = start;
     for cell in cells {
@@ -117,9 +114,7 @@ fn put_checks(profile: &Profile, cells: &[Cell], start: usize, out: &mut [u8]) -
 fn put_check(profile: &Profile, cell: &Cell, at: usize, out: &mut [u8]) -> usize
     requires frame { IsFrame profile.now.codec (frame_of cell.now) }
     requires fits { at + length (check_part profile.now (frame_of cell.now)) ≤ length out.old }
-    ensures at { result ≡ at + length (check_part profile.now (frame_of cell.now)) }
-    ensures octets { take result out.new
-        ≡ take at out.old ++ check_part profile.now (frame_of cell.now) }
+    ensures { PutAt out.old at (check_part profile.now (frame_of cell.now)) out.new result }
 {
     if !has_check(profile, cell) {
         return at;

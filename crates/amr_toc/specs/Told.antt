@@ -2,6 +2,7 @@
 -- about a reader doesn't compute all rules of a payload where it only passes an answer on.
 use Rattle.std.specs.Prelude.{◌≡◌, ◌↔◌, ℕ, List, Some, None, Result, Ok, Err, IfOk, IfErr}
 use Rattle.amr_frame.specs.declared.profile.Profile.{Profile}
+use Rattle.amr_frame.specs.Profiles.{IsValid}
 use Rattle.amr_toc.specs.declared.entry.Toc.{Toc}
 use Rattle.amr_toc.specs.declared.view.PayloadView.{PayloadView}
 use Rattle.amr_toc.specs.Lists.{listed, toc_at}
@@ -23,6 +24,12 @@ pub record IsRefused (p : Profile) (octets : List ℕ) (why : PayloadRefusal) : 
 pub record IsRead (p : Profile) (octets : List ℕ) (v : Value) : Type 0 where
   pub none : payload_refusal p octets ≡ None
   pub value : read_as p octets ≡ Ok v
+
+-- the octets break no rule of a valid format, and this is their table
+pub record IsTableOf (p : Profile) (octets : List ℕ) (toc : Toc) : Type 0 where
+  pub valid : IsValid p
+  pub accepted : payload_refusal p octets ≡ None
+  pub table : listed toc ≡ toc_at p octets
 
 -- what a reader of tables promises of its answer: a table where the octets break no rule, and it is
 -- theirs, or the first rule that they break

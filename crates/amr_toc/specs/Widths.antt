@@ -14,6 +14,11 @@ pub record HoldTable (bits width entries : ℕ) : Type 0 where
   pub most : entries ≤ 384
   pub whole : entries * width ≤ bits
 
+-- entry `at` can stand in a table: there are 384 before it at most
+pub record IsPlaced (width at : ℕ) : Type 0 where
+  pub wide : IsWide width
+  pub few : at ≤ 384
+
 -- entry `at` is whole in so many bits
 pub record HoldEntry (bits width at : ℕ) : Type 0 where
   pub wide : IsWide width

@@ -3,7 +3,7 @@ ghost use Rattle.amr_bits.specs.Runs.{run};
 ghost use Rattle.amr_frame.specs.Profiles.{IsValid};
 ghost use Rattle.amr_toc.specs.Lists.{listed};
 ghost use Rattle.amr_toc.specs.Table.{fault_of, last_of, table_of, table_refusal};
-ghost use Rattle.amr_toc.specs.Widths.{HoldTable, IsWide};
+ghost use Rattle.amr_toc.specs.Widths.{HoldTable, IsPlaced, IsWide};
 
 use crate::entry::Toc;
 use amr_bits::BitSlice;
@@ -79,8 +79,7 @@ fn fault_at(
     width: usize,
     at: usize,
 ) -> Option<PayloadRefusal>
-    requires at { at ≤ 384 }
-    requires wide { IsWide width }
+    requires { IsPlaced width at }
     ensures fault { result ≡ fault_of profile.now width (run bits.entry) at }
     ensures whole { IfNone result ((at + 1) * width ≤ bits.entry.len) }
     ensures few { IfNone result (at ≢ profile.now.max_blocks * profile.now.channels) }

@@ -4,9 +4,8 @@ ghost use Rattle.amr_bits.specs.Runs.{run};
 ghost use Rattle.amr_frame.specs.Cells.{IsCell, held};
 ghost use Rattle.amr_frame.specs.Profiles.{IsValid};
 ghost use Rattle.amr_frame.specs.Tables.{bits_in, octets_in};
-ghost use Rattle.amr_guard.specs.Sorting.{IsOctet};
 ghost use Rattle.amr_toc.specs.Lists.{listed, toc_at, types_of};
-ghost use Rattle.amr_toc.specs.Places.{bits_to, body_bit, sizes_in};
+ghost use Rattle.amr_toc.specs.Places.{bits_to, body_bit};
 ghost use Rattle.spec_payload.specs.Reading.{checks_at, payload_refusal};
 ghost use Rattle.spec_payload.specs.Values.{IsValue};
 
@@ -36,8 +35,8 @@ pub struct PayloadView<'a> {
 }
 
 impl<'a> PayloadView<'a> {
-    ghost use Rattle.amr_toc.specs.Frames.{HasGathered, HasType, IsEntry, IsRun, ShowsFrame};
-    ghost use Rattle.amr_toc.specs.Told.{Accepts, Reads};
+    ghost use Rattle.amr_toc.specs.Frames.{HasCheck, HasGathered, HasSorted, HasType, InPlain, InSorted, IsEntry, IsGathered, IsLent, IsRun, ShowsFrame};
+    ghost use Rattle.amr_toc.specs.Told.{Accepts, IsTableOf, Reads};
     ghost use Rattle.amr_toc.specs.Viewed.{checks_to, format_of, frame_in, is_damaged, octets_of, said, standing, viewed};
     ghost use Rattle.amr_toc.specs.Walks.{StandsAt, begins_at};
 
@@ -63,9 +62,7 @@ impl<'a> PayloadView<'a> {
     /// The view of a payload's octets, of which `toc` is the table of contents.
     #[inline(always)]
     fn over(profile: &Profile, octets: &'a [u8], toc: Toc<'a>) -> PayloadView<'a>
-        requires valid { IsValid profile.now }
-        requires accepted { payload_refusal profile.now octets.now ≡ None }
-        requires table { listed toc ≡ toc_at profile.now octets.now }
+        requires { IsTableOf profile.now octets.now toc }
 
         ensures format { format_of result ≡ profile.now }
         ensures octets { octets_of result ≡ octets.now }
@@ -263,8 +260,7 @@ impl<'a> PayloadView<'a> {
 
     /// Frame `at`, which has this entry and these bits, with Q = 0 where it is damaged.
     fn seen_as(&self, at: usize, entry: Entry, bits: BitSlice<'_>) -> Cell
-        requires entry { IsEntry self.now at entry }
-        requires run { IsRun self.now at entry.ft bits }
+        requires { IsLent self.now at entry bits }
         ensures { ShowsFrame self.now at result }
     {
         let damaged = self.check_differs(at, entry.ft, bits);
@@ -288,9 +284,7 @@ impl<'a> PayloadView<'a> {
 
     /// The CRC that came for frame `at` (RFC 4867, 4.4.2.1).
     fn check_sent(&self, at: usize) -> u8
-        requires frame { at < length (viewed self.now).frames }
-        requires checks { self.now.profile.crc ≡ true }
-        requires filled { 0 < length (frame_in (said self.now) at).bits }
+        requires { HasCheck self.now at }
         ensures { result ≡ slice_index (checks_at self.now.profile self.now.octets.now)
             (checks_to (said self.now).frames at) }
     {
@@ -301,8 +295,7 @@ impl<'a> PayloadView<'a> {
 
     /// The bits of frame `at` in a payload whose octets aren't sorted.
     fn run_of(&self, at: usize) -> BitSlice<'a>
-        requires frame { at < length (viewed self.now).frames }
-        requires plain { self.now.profile.sorting ≡ false }
+        requires { InPlain self.now at }
         ensures bits { run result ≡ (frame_in (said self.now) at).bits }
         ensures lent { result.octets.now ≡ octets_of self.now }
     {
@@ -325,8 +318,7 @@ impl<'a> PayloadView<'a> {
 
     /// The bits of frame `at`, which has this type, in its octets, brought together.
     fn run_in<'b>(&self, at: usize, ft: u8, gathered: &'b [u8; 60]) -> BitSlice<'b>
-        requires kind { HasType self.now at ft }
-        requires gathered { HasGathered self.now at gathered.now }
+        requires { IsGathered self.now at ft gathered.now }
         ensures { IsRun self.now at ft result }
     {
         BitSlice {
@@ -350,8 +342,7 @@ impl<'a> PayloadView<'a> {
 
     /// The octets of frame `at` of a payload whose octets are sorted, brought together; zeros behind them.
     fn gathered(&self, at: usize) -> [u8; 60]
-        requires frame { at < length (viewed self.now).frames }
-        requires sorted { self.now.profile.sorting ≡ true }
+        requires { InSorted self.now at }
         ensures { HasGathered self.now at result }
     {
         let counts = octet_counts(&self.profile, &self.toc);
@@ -366,9 +357,7 @@ impl<'a> PayloadView<'a> {
     /// Octet `octet` of frame `at` of a payload whose octets are sorted, where the frames have so many
     /// octets.
     fn sorted_octet(&self, counts: &[u8], at: usize, octet: usize) -> u8
-        requires sorted { self.now.profile.sorting ≡ true }
-        requires counts { counts.now ≡ sizes_in self.now.profile (types_of (listed self.now.toc)) }
-        requires exists { IsOctet counts.now at octet }
+        requires { HasSorted self.now counts.now at octet }
         ensures { result ≡ standing self.now at octet }
     {
         self.octets[self.body / 8 + sorted_place(counts, at, octet)]

@@ -16,13 +16,16 @@ returns-then-len-eq0 c =
     without_bits c.args.self.now.profile.crc (has_bits f) _ (le-ltb 0 (length f.bits)
     (omega (arith, c.if-len-eq0.true)))
 
-pub check_sent-requires-clause-filled : goal.check_sent-requires-clause-filled
-check_sent-requires-clause-filled c =
-    omega (
-      arith,
-      run_long c.args.self.now c.args.at c.args.ft c.len.result _ c.requires c.len.ensures.bits,
-      c.if-len-eq0.false,
-    )
+pub check_sent-requires : goal.check_sent-requires
+check_sent-requires c = record {
+  frame = c.requires.kind.exists;
+  checks = c.if-not-self.false;
+  filled = omega (
+    arith,
+    run_long c.args.self.now c.args.at c.args.ft c.len.result _ c.requires c.len.ensures.bits,
+    c.if-len-eq0.false,
+  );
+}
 
 pub returns : goal.returns
 returns c =

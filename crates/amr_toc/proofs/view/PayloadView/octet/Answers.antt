@@ -1,4 +1,4 @@
-use Rattle.std.proofs.Common.{◌<◌, length, get_or, ap, sym, subst, ◌∙◌, arith}
+use Rattle.std.proofs.Common.{◌<◌, length, get_or, ap, sym, subst, ◌∙◌, arith, rules}
 use Rattle.amr_bits.specs.Bits.{octets_for}
 use Rattle.amr_bits.proofs.Runs.{length-run}
 use Rattle.amr_toc.proofs.InView.{bit_stands, counted, in_listed, octet_counted, octet_few, octet_stands, octet_within}
@@ -27,13 +27,17 @@ returns-then-not-self-2-clause-standing c aligned =
     c.requires.frame c.requires.octet c.start_of.ensures in
     ap (λ n. get_or c.args.self.now.octets.now n 0) there.0
 
-pub sorted_octet-requires-clause-exists : goal.sorted_octet-requires-clause-exists
-sorted_octet-requires-clause-exists c =
+pub sorted_octet-requires : goal.sorted_octet-requires
+sorted_octet-requires c =
     let v = c.args.self.now in
     let counts = counted v c.args.at c.len.result c.octet_counts-counts.result c.requires.frame c.len.ensures.entries
     c.octet_counts-counts.ensures in
-    octet_counted v c.args.at c.args.octet _ counts (octet_within v c.args.at c.args.octet c.requires.frame
-    c.requires.octet)
+    record {
+      sorted = search rules;
+      counts = search rules;
+      exists = octet_counted v c.args.at c.args.octet _ counts (octet_within v c.args.at c.args.octet c.requires.frame
+          c.requires.octet);
+    }
 
 pub returns-then-not-self-2-clause-bits : goal.returns-then-not-self-2-clause-bits
 returns-then-not-self-2-clause-bits c aligned i few inside =
