@@ -1,5 +1,5 @@
 -- Entries of a table of contents, by themselves, and the bits that a table is written as.
-use Rattle.std.specs.Prelude.{ℕ, ◌-◌, ◌<◌, ◌≤◌, Bool, List, [], length, map, slice_index_or}
+use Rattle.std.specs.Prelude.{◌≡◌, ℕ, ◌-◌, ◌<◌, ◌≤◌, ◌⊎◌, Bool, List, [], length, map, slice_index_or}
 use Rattle.amr_bits.specs.Layout.{settled}
 use Rattle.amr_frame.specs.Frames.{Frame}
 use Rattle.amr_toc.specs.declared.entry.Entry.{Entry}
@@ -8,6 +8,18 @@ use Rattle.spec_payload.specs.Grammar.{entry, table}
 -- each entry has a type of four bits
 abbrev pub HasTypes : List Entry → Type 0
 HasTypes es = (k : ℕ) (other : Entry) → k < length es → (slice_index_or es k other).ft ≤ 15
+
+-- an entry that can be written 6 or 8 bits wide
+pub record IsWritable (width : ℕ) (e : Entry) : Type 0 where
+  pub type_exists : e.ft ≤ 15
+  pub wide : (width ≡ 6) ⊎ (width ≡ 8)
+
+-- entries that can be written so as a table: one at least, and as many as a table has at most
+pub record AreWritable (width : ℕ) (es : List Entry) : Type 0 where
+  pub some : 1 ≤ length es
+  pub most : length es ≤ 384
+  pub types : HasTypes es
+  pub wide : (width ≡ 6) ⊎ (width ≡ 8)
 
 -- the frame that an entry heads, but for its bits
 abbrev pub headed : Entry → Frame

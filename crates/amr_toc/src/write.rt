@@ -1,6 +1,6 @@
-ghost use Rattle.std.specs.Prelude.{◌≡◌, ◌+◌, ◌*◌, ◌^◌, ◌≤◌, ◌<◌, ◌⊎◌, length};
+ghost use Rattle.std.specs.Prelude.{◌≡◌, ◌+◌, ◌*◌, ◌^◌, ◌≤◌, ◌<◌, length};
 ghost use Rattle.amr_toc.specs.Behind.{WrittenBehind};
-ghost use Rattle.amr_toc.specs.Entries.{HasTypes, entry_text, table_text};
+ghost use Rattle.amr_toc.specs.Entries.{AreWritable, IsWritable, entry_text, table_text};
 
 use crate::entry::Entry;
 use amr_bits::BitWriter;
@@ -9,10 +9,7 @@ use amr_bits::BitWriter;
 /// (4.4.2). F is 1 on each entry but the last, and the two bits P of an entry of 8 bits are 0. The other
 /// bits of a begun octet become 0.
 pub fn write_toc(entries: &[Entry], width: u32, at: &mut BitWriter, out: &mut [u8])
-    requires some { 1 ≤ length entries.now }
-    requires most { length entries.now ≤ 384 }
-    requires types { HasTypes entries.now }
-    requires width { (width ≡ 6) ⊎ (width ≡ 8) }
+    requires entries { AreWritable width entries.now }
     requires fits { at.old.written + width * length entries.now ≤ 8 * length out.old }
     requires counts { at.old.written + width * length entries.now < 2 ^ 64 }
     ensures written { at.new.written ≡ at.old.written + width * length entries.now }
@@ -27,8 +24,7 @@ pub fn write_toc(entries: &[Entry], width: u32, at: &mut BitWriter, out: &mut [u
 /// Writes one entry of a table of contents behind the bits written, with F = 1 where more entries follow.
 /// The other bits of a begun octet become 0.
 pub fn put_entry(entry: Entry, more: bool, width: u32, at: &mut BitWriter, out: &mut [u8])
-    requires type_exists { entry.ft ≤ 15 }
-    requires width { (width ≡ 6) ⊎ (width ≡ 8) }
+    requires entry { IsWritable width entry }
     requires fits { at.old.written + width ≤ 8 * length out.old }
     requires counts { at.old.written + width < 2 ^ 64 }
     ensures written { at.new.written ≡ at.old.written + width }

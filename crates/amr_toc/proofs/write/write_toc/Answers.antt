@@ -10,19 +10,19 @@ loop-k-init c = (omega arith, at_first c.args.out.now c.args.at.now.written (tab
 
 pub put_entry-requires-clause-fits : goal.put_entry-requires-clause-fits
 put_entry-requires-clause-fits c =
-    let room = room_for c.args.width c.loop-k.k (length c.args.entries.now) c.requires.width (omega arith) in
+    let room = room_for c.args.width c.loop-k.k (length c.args.entries.now) c.requires.entries.wide (omega arith) in
     omega (arith, c.loop-k.invariant.0, c.loop-k.invariant.1.size, c.requires.fits)
 
 pub put_entry-requires-clause-counts : goal.put_entry-requires-clause-counts
 put_entry-requires-clause-counts c =
-    let room = room_for c.args.width c.loop-k.k (length c.args.entries.now) c.requires.width (omega arith) in
+    let room = room_for c.args.width c.loop-k.k (length c.args.entries.now) c.requires.entries.wide (omega arith) in
     omega (arith, c.loop-k.invariant.0, c.requires.counts)
 
 pub loop-k-preserved : goal.loop-k-preserved
 loop-k-preserved c =
     let es = c.args.entries.now in
     let k = c.loop-k.k in
-    let more = one_more c.args.width k c.requires.width in
+    let more = one_more c.args.width k c.requires.entries.wide in
     let here = entries_from c.args.width es k _ (omega arith) in
     let written = c.put_entry.ensures.written in (
       omega (arith, c.loop-k.invariant.0),
@@ -38,4 +38,4 @@ returns-clause-written c =
 pub returns-clause-text : goal.returns-clause-text
 returns-clause-text c =
     let none = at_drop_all (table_text c.args.width) c.args.entries.now c.loop-k.k (omega arith) in
-    at_last c.loop-k.invariant.1 none (omega (arith, c.requires.some))
+    at_last c.loop-k.invariant.1 none (omega (arith, c.requires.entries.some))
