@@ -8,7 +8,7 @@ use Rattle.segment_laws.proofs.Alone.{all_alone}
 use Rattle.segment_laws.proofs.Counting.{same_copies}
 use Rattle.segment_laws.proofs.Single.{last_is, same_accepted, same_gone, same_released}
 use Rattle.segment_laws.proofs.Steps.{Step, Joins, Opens, Stays, step}
-use Rattle.segment_laws.specs.One.{IsOneSegment, packets, without_refused}
+use Rattle.segment_laws.specs.One.{IsOneSegment, in_segments, packets, without_refused}
 use Rattle.spec_segments.specs.Counts.{copy_count, late_count}
 use Rattle.spec_segments.specs.Release.{gone_out, released}
 use Rattle.spec_segments.specs.Segments.{Segments, accepted, at_start, segments, with_packet}
@@ -80,34 +80,45 @@ session_alone : (rules : Rules) (h : List Packet) → IsOneSegment rules h →
     session.accepted rules (without_refused rules h) ≡ session.accepted rules h
 session_alone rules h e = ap (session.accepted rules) (without rules h e) ∙ (all_alone rules h).1 ∙ last_is rules h e
 
-pub alone_accepted : (rules : Rules) (h : List Packet) → IsOneSegment rules h →
+alone_accepted : (rules : Rules) (h : List Packet) → IsOneSegment rules h →
     accepted rules (without_refused rules h) ≡ accepted rules h
 alone_accepted rules h e =
     same_accepted rules (without_refused rules h) (alone_is_one rules h e)
     ∙ session_alone rules h e
     ∙ sym (same_accepted rules h e)
 
-pub alone_released : (rules : Rules) (h : List Packet) → IsOneSegment rules h →
+alone_released : (rules : Rules) (h : List Packet) → IsOneSegment rules h →
     released rules (without_refused rules h) ≡ released rules h
 alone_released rules h e =
     same_released rules (without_refused rules h) (alone_is_one rules h e)
     ∙ ap (λ acc. released_of rules (copies_of rules acc)) (session_alone rules h e)
     ∙ sym (same_released rules h e)
 
-pub alone_gone : (rules : Rules) (h : List Packet) → IsOneSegment rules h →
+alone_gone : (rules : Rules) (h : List Packet) → IsOneSegment rules h →
     gone_out rules (without_refused rules h) ≡ gone_out rules h
 alone_gone rules h e =
     same_gone rules (without_refused rules h) (alone_is_one rules h e)
     ∙ ap (gone_of rules) (session_alone rules h e)
     ∙ sym (same_gone rules h e)
 
-pub alone_late : (rules : Rules) (h : List Packet) → IsOneSegment rules h →
+alone_late : (rules : Rules) (h : List Packet) → IsOneSegment rules h →
     late_count rules (without_refused rules h) ≡ late_count rules h
 alone_late rules h e = ap (λ acc. sum (map (late_in rules) acc)) (alone_accepted rules h e)
 
-pub alone_copies : (rules : Rules) (h : List Packet) → IsOneSegment rules h →
+alone_copies : (rules : Rules) (h : List Packet) → IsOneSegment rules h →
     copy_count rules (without_refused rules h) ≡ copy_count rules h
 alone_copies rules h e =
     same_copies rules (without_refused rules h) (alone_is_one rules h e)
     ∙ ap (λ acc. length (copies_of rules acc) - different (copies_of rules acc)) (session_alone rules h e)
     ∙ sym (same_copies rules h e)
+
+pub alone_reception : (rules : Rules) (h : List Packet) → IsOneSegment rules h →
+    in_segments rules (without_refused rules h) ≡ in_segments rules h
+alone_reception rules h e = λ i. record {
+  accepted = alone_accepted rules h e i;
+  released = alone_released rules h e i;
+  gone = alone_gone rules h e i;
+  late = alone_late rules h e i;
+  copies = alone_copies rules h e i;
+  blocks = length (alone_released rules h e i);
+}

@@ -1,7 +1,7 @@
 -- The counts of a session of one segment.
 use Rattle.std.proofs.Common.{◌≡◌, ℕ, List, [], ◌∷◌, ◌++◌, length, map, sum, ap, ◌∙◌, arith}
-use Rattle.segment_laws.proofs.Single.{last_is, same_accepted, same_released}
-use Rattle.segment_laws.specs.One.{IsOneSegment}
+use Rattle.segment_laws.proofs.Single.{last_is, same_accepted, same_gone, same_released}
+use Rattle.segment_laws.specs.One.{IsOneSegment, in_segments, in_session}
 use Rattle.spec_segments.specs.Counts.{block_count, copy_count, late_count, repeats}
 use Rattle.spec_segments.specs.Segments.{segments}
 use Rattle.spec_session.specs.Copies.{copies_of}
@@ -13,7 +13,7 @@ use Rattle.spec_session.specs.Session.{Rules}
 sum_of_one : (n : ℕ) → sum (n ∷ []) ≡ n
 sum_of_one n = omega arith
 
-pub same_late : (rules : Rules) (h : List Packet) → IsOneSegment rules h →
+same_late : (rules : Rules) (h : List Packet) → IsOneSegment rules h →
     late_count rules h ≡ session.late_count rules h
 same_late rules h e = ap (λ acc. sum (map (late_in rules) acc)) (same_accepted rules h e)
 
@@ -25,6 +25,17 @@ same_copies rules h e =
     ∙ sum_of_one (repeats (copies_of rules s.last))
     ∙ ap (λ l. repeats (copies_of rules l)) (last_is rules h e)
 
-pub same_blocks : (rules : Rules) (h : List Packet) → IsOneSegment rules h →
+same_blocks : (rules : Rules) (h : List Packet) → IsOneSegment rules h →
     block_count rules h ≡ session.block_count rules h
 same_blocks rules h e = ap length (same_released rules h e)
+
+pub same_reception : (rules : Rules) (h : List Packet) → IsOneSegment rules h →
+    in_segments rules h ≡ in_session rules h
+same_reception rules h e = λ i. record {
+  accepted = same_accepted rules h e i;
+  released = same_released rules h e i;
+  gone = same_gone rules h e i;
+  late = same_late rules h e i;
+  copies = same_copies rules h e i;
+  blocks = same_blocks rules h e i;
+}
