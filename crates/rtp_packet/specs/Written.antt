@@ -60,11 +60,15 @@ packet_of fields payload = record {
 abbrev pub IsWords : List ℕ → Type 0
 IsWords octets = (length octets % 4 ≡ 0) × (length octets / 4 < 2 ^ 16)
 
+-- contributing sources and an extension whose numbers fit their places
+pub record AreCountable (fields : RtpFields) : Type 0 where
+  pub sources : length fields.sources.now ≤ 15
+  pub extension : IfSome fields.extension (λ e. IsWords e.1.now)
+
 -- fields that fit the places of a header
 pub record AreWritable (fields : RtpFields) : Type 0 where
   pub payload_type : fields.payload_type ≤ 127
-  pub sources : length fields.sources.now ≤ 15
-  pub extension : IfSome fields.extension (λ e. IsWords e.1.now)
+  pub counts : AreCountable fields
 
 -- how many octets an extension takes, its head included
 abbrev pub extension_size : Option (ℕ × Bor (List ℕ)) → ℕ

@@ -1,55 +1,50 @@
-// The fields of a header (RFC 3550, 5.1 and 5.3.1), each read from whole octets.
-ghost use Rattle.std.specs.Prelude.{◌≡◌, ◌+◌, ◌*◌, ◌≤◌, ◌<◌, length};
+// The fields of a header (RFC 3550, 5.1 and 5.3.1), each read from whole octets. A field of the
+// first or the second octet takes that octet alone.
+ghost use Rattle.std.specs.Prelude.{◌≡◌, ◌+◌, ◌*◌, ◌≤◌, ◌<◌, [], ◌∷◌, length};
 ghost use Rattle.amr_bits.specs.Bits.{bit_at, number_at};
 ghost use Rattle.spec_packet.specs.RtpReading.{version, is_padded as has_padding, is_extended as has_extension};
 
-/// The version: the first two bits.
-pub(crate) fn version_in(octets: &[u8]) -> u8
-    requires { 0 < length octets.now }
-    ensures { result ≡ version octets.now }
+/// The version: the first two bits of the first octet.
+pub(crate) fn version_in(first: u8) -> u8
+    ensures { result ≡ version (first ∷ []) }
 {
-    octets[0] / 64
+    first / 64
 }
 
-/// Whether there is padding.
-pub(crate) fn is_padded(octets: &[u8]) -> bool
-    requires { 0 < length octets.now }
-    ensures { result ≡ has_padding octets.now }
+/// Whether there is padding, by the first octet.
+pub(crate) fn is_padded(first: u8) -> bool
+    ensures { result ≡ has_padding (first ∷ []) }
 {
-    octets[0] / 32 % 2 == 1
+    first / 32 % 2 == 1
 }
 
-/// Whether there is a header extension.
-pub(crate) fn is_extended(octets: &[u8]) -> bool
-    requires { 0 < length octets.now }
-    ensures { result ≡ has_extension octets.now }
+/// Whether there is a header extension, by the first octet.
+pub(crate) fn is_extended(first: u8) -> bool
+    ensures { result ≡ has_extension (first ∷ []) }
 {
-    octets[0] / 16 % 2 == 1
+    first / 16 % 2 == 1
 }
 
-/// How many contributing sources there are.
-pub(crate) fn source_count(octets: &[u8]) -> usize
-    requires { 0 < length octets.now }
-    ensures count { result ≡ number_at octets.now 4 4 }
+/// How many contributing sources there are, by the first octet.
+pub(crate) fn source_count(first: u8) -> usize
+    ensures count { result ≡ number_at (first ∷ []) 4 4 }
     ensures below { result < 16 }
 {
-    (octets[0] % 16) as usize
+    (first % 16) as usize
 }
 
-/// The marker bit.
-pub(crate) fn marker_in(octets: &[u8]) -> bool
-    requires { 1 < length octets.now }
-    ensures { result ≡ bit_at octets.now 8 }
+/// The marker bit, by the second octet.
+pub(crate) fn marker_in(second: u8) -> bool
+    ensures { result ≡ bit_at (second ∷ []) 0 }
 {
-    octets[1] / 128 == 1
+    second / 128 == 1
 }
 
-/// The payload type.
-pub(crate) fn type_in(octets: &[u8]) -> u8
-    requires { 1 < length octets.now }
-    ensures { result ≡ number_at octets.now 9 7 }
+/// The payload type, by the second octet.
+pub(crate) fn type_in(second: u8) -> u8
+    ensures { result ≡ number_at (second ∷ []) 1 7 }
 {
-    octets[1] % 128
+    second % 128
 }
 
 /// The 16 bits of the two octets from `at` on.

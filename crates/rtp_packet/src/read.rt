@@ -24,11 +24,11 @@ pub fn read_rtp(octets: &[u8]) -> Result<RtpView<'_>, RtpRefusal>
     if octets.len() < 12 {
         return Err(RtpRefusal::Short { have: octets.len() });
     }
-    let version = version_in(octets);
+    let version = version_in(octets[0]);
     if version != 2 {
         return Err(RtpRefusal::Version { got: version });
     }
-    let sources_end = 12 + 4 * source_count(octets);
+    let sources_end = 12 + 4 * source_count(octets[0]);
     if octets.len() < sources_end {
         return Err(RtpRefusal::Sources);
     }
@@ -50,7 +50,7 @@ fn header_end(octets: &[u8], sources_end: usize) -> Option<usize>
         × (sources_end ≤ end) × (end ≤ length octets.now)) }
     ensures none { is_none result ≡ breaks_extension octets.now }
 {
-    if !is_extended(octets) {
+    if !is_extended(octets[0]) {
         return Some(sources_end);
     }
     if octets.len() < sources_end + 4 {
@@ -73,7 +73,7 @@ fn padding_of(octets: &[u8], header_size: usize) -> Option<u8>
         (λ n. (n ≡ padding_in octets.now) × (header_size + n ≤ length octets.now)) }
     ensures none { is_none result ≡ breaks_padding octets.now }
 {
-    if !is_padded(octets) {
+    if !is_padded(octets[0]) {
         return Some(0);
     }
     let padding = octets[octets.len() - 1];

@@ -41,14 +41,14 @@ impl<'a> RtpView<'a> {
     pub fn marker(&self) -> bool
         ensures { result ≡ (packet self.now).marker }
     {
-        marker_in(self.octets)
+        marker_in(self.octets[1])
     }
 
     /// The payload type, from 0 to 127.
     pub fn payload_type(&self) -> u8
         ensures { result ≡ (packet self.now).payload_type }
     {
-        type_in(self.octets)
+        type_in(self.octets[1])
     }
 
     /// The sequence number.
@@ -76,7 +76,7 @@ impl<'a> RtpView<'a> {
     pub fn sources(&self) -> usize
         ensures { result ≡ length (packet self.now).sources }
     {
-        source_count(self.octets)
+        source_count(self.octets[0])
     }
 
     /// The contributing source at place `at` of the list, counted from 0.
@@ -92,8 +92,8 @@ impl<'a> RtpView<'a> {
     pub fn extension(&self) -> Option<(u16, &'a [u8])>
         ensures { option_map (λ e. extension_of e.0 e.1.now) result ≡ (packet self.now).extension }
     {
-        if is_extended(self.octets) {
-            let at = 12 + 4 * source_count(self.octets);
+        if is_extended(self.octets[0]) {
+            let at = 12 + 4 * source_count(self.octets[0]);
             let bits = number_16(self.octets, at);
             Some((bits, &self.octets[at + 4..self.header_size]))
         } else {

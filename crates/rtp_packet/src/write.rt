@@ -1,7 +1,7 @@
 ghost use Rattle.std.specs.Prelude.{◌≡◌, ℕ, List, ◌+◌, ◌≤◌, ◌++◌, length, take, flat_map, option_map, IfSome, Ok};
 ghost use Rattle.spec_packet.specs.RtpReading.{rtp_of};
 ghost use Rattle.rtp_packet.specs.View.{extension_of};
-ghost use Rattle.rtp_packet.specs.Written.{octets_32, fixed_octets, extension_octets, packet_of, written, packet_size, extension_size as size_of_extension, AreWritable, IsWords};
+ghost use Rattle.rtp_packet.specs.Written.{octets_32, fixed_octets, extension_octets, packet_of, written, packet_size, extension_size as size_of_extension, AreCountable, AreWritable, IsWords};
 
 use crate::fields::RtpFields;
 use crate::fit::fit_places;
@@ -9,8 +9,7 @@ use crate::put::{four_octets, put, put_extension, put_padding, put_sources, two_
 
 /// How many octets an RTP packet has with these fields and a payload of `payload_len` octets.
 pub fn size_rtp(fields: &RtpFields<'_>, payload_len: usize) -> usize
-    requires sources { length fields.now.sources.now ≤ 15 }
-    requires extension { IfSome fields.now.extension (λ e. IsWords e.1.now) }
+    requires fields { AreCountable fields.now }
     requires payload { payload_len ≤ 65535 }
     ensures { result ≡ packet_size fields.now payload_len }
 {
@@ -24,9 +23,7 @@ pub fn size_rtp(fields: &RtpFields<'_>, payload_len: usize) -> usize
 /// exactly where there is padding; the padding octets but the last are 0. Read again it is the same
 /// packet.
 pub fn write_rtp(fields: &RtpFields<'_>, payload: &[u8], out: &mut [u8])
-    requires payload_type { fields.now.payload_type ≤ 127 }
-    requires sources { length fields.now.sources.now ≤ 15 }
-    requires extension { IfSome fields.now.extension (λ e. IsWords e.1.now) }
+    requires fields { AreWritable fields.now }
     requires payload { length payload.now ≤ 65535 }
     requires size { length out.old ≡ packet_size fields.now (length payload.now) }
     ensures octets { out.new ≡ written (packet_of fields.now payload.now) }

@@ -1,6 +1,6 @@
-use Rattle.std.proofs.Common.{arith}
+use Rattle.std.proofs.Common.{[], ◌∷◌, arith}
 use Rattle.rtp_packet.proofs.Octets.{top_bit}
 use Rattle.rtp_packet.proofs.header.marker_in.Goals as goal
 
 pub returns : goal.returns
-returns c = top_bit c.args.octets.now (omega (arith, c.type_inv.octets 1))
+returns c = top_bit (0 ∷ c.args.second ∷ []) (omega arith)
