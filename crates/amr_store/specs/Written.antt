@@ -1,8 +1,12 @@
 -- What a writer of storage files did to the sink that it writes to.
-use Rattle.std.specs.Prelude.{◌≡◌, ℕ, Bool, true, false, ◌&&◌, nat_le, List, Option, Result, Ok, Err}
+use Rattle.std.specs.Prelude.{◌≡◌, ℕ, ◌≤◌, Bool, true, false, ◌&&◌, nat_le, List, Option, Result, Ok, Err, OnErr, OnOk}
+use Rattle.std.specs.Borrow.{MutBor}
 use Rattle.std.specs.Io.KnownBytes.{Appends}
+use Rattle.amr_io.specs.Steps.{SinkStep}
 use Rattle.amr_io.specs.Told.{AppendsFront}
+use Rattle.amr_io.specs.declared.sink.Sink as sink
 use Rattle.amr_frame.specs.Frames.{Frame}
+use Rattle.amr_frame.specs.declared.codec.Codec.{Codec}
 use Rattle.amr_store.specs.declared.writer.StoreWriter.{StoreWriter}
 use Rattle.amr_store.specs.declared.writer.Stage.{Stage}
 use Rattle.amr_store.specs.declared.writer.Stage.TheVariants.{Fresh, Open, Spent}
@@ -21,6 +25,25 @@ stage_after (Err _) = Spent
 -- a writer takes blocks once it has begun, until a write fails; its channels are from 1 to 6
 abbrev pub takes_blocks : Stage → ℕ → Bool
 takes_blocks stage channels = is_open stage && nat_le 1 channels && nat_le channels 6
+
+-- the numbers of channels that a file may have
+abbrev pub AreChannels : ℕ → Type 0
+AreChannels channels = (1 ≤ channels) × (channels ≤ 6)
+
+-- a writer of this format was made at this stage over the sink that was lent, which is as it was
+pub record StandsOver {O : Type 0} (codec : Codec) (channels : ℕ) (first : Stage) (lent : MutBor O)
+    (before : O) (w : StoreWriter O) : Type 0 where
+  pub format : (w.codec ≡ codec) × (w.channels ≡ channels)
+  pub stage : w.stage ≡ first
+  pub same_reference : w.sink.ghost_name ≡ lent.ghost_name
+  pub now : w.sink.now ≡ before
+
+-- a call wrote this text to a sink; where it failed, a front of it
+pub record WroteText {O A E : Type 0} (k : sink.Ghosts O) (text : List ℕ) (old new : O)
+    (result : Result A E) : Type 0 where
+  pub whole : OnOk result (Appends (k.got old) (k.got new) text)
+  pub part : OnErr result (AppendsFront (k.got old) (k.got new) text)
+  pub step : SinkStep k old new result
 
 -- two writers write to the same sink, it to the same object, and what stands beside its octets is
 -- as before

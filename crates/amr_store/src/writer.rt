@@ -2,9 +2,8 @@ ghost use Rattle.std.specs.Prelude.{◌≡◌, ◌≤◌, OnErr, OnOk};
 ghost use Rattle.std.specs.List.{AllByRecursion};
 ghost use Rattle.std.specs.Io.KnownBytes.{Appends};
 ghost use Rattle.amr_io.specs.Fault.{HasCause};
-ghost use Rattle.amr_io.specs.Steps.{SinkStep};
 ghost use Rattle.amr_io.specs.Told.{AppendsFront};
-ghost use Rattle.amr_store.specs.Written.{stage_after, takes_blocks};
+ghost use Rattle.amr_store.specs.Written.{AreChannels, StandsOver, WroteText, stage_after, takes_blocks};
 ghost use Rattle.spec_store.specs.StorageFile.{block_text, header, multi};
 ghost use Rattle.amr_frame.specs.Blocks.{frames_of};
 
@@ -35,13 +34,8 @@ pub struct StoreWriter<'a, O> {
 impl<'a, O: Sink> StoreWriter<'a, O> {
     /// A writer that has written nothing.
     pub fn new(codec: Codec, channels: u8, sink: &'a mut O) -> StoreWriter<'a, O>
-        requires some { 1 ≤ channels }
-        requires most { channels ≤ 6 }
-
-        ensures format { (result.codec ≡ codec) × (result.channels ≡ channels) }
-        ensures stage { result.stage ≡ Stage.Fresh }
-        ensures same_reference { result.sink.ghost_name ≡ sink.entry.ghost_name }
-        ensures now { result.sink.now ≡ sink.old }
+        requires { AreChannels channels }
+        ensures { StandsOver codec channels Stage.Fresh sink.entry sink.old result }
     {
         StoreWriter {
             codec,
@@ -53,13 +47,8 @@ impl<'a, O: Sink> StoreWriter<'a, O> {
 
     /// A writer that goes on behind what was written before, so that one sink serves several writers in turn.
     pub fn resume(codec: Codec, channels: u8, sink: &'a mut O) -> StoreWriter<'a, O>
-        requires some { 1 ≤ channels }
-        requires most { channels ≤ 6 }
-
-        ensures format { (result.codec ≡ codec) × (result.channels ≡ channels) }
-        ensures stage { result.stage ≡ Stage.Open }
-        ensures same_reference { result.sink.ghost_name ≡ sink.entry.ghost_name }
-        ensures now { result.sink.now ≡ sink.old }
+        requires { AreChannels channels }
+        ensures { StandsOver codec channels Stage.Open sink.entry sink.old result }
     {
         StoreWriter {
             codec,
@@ -97,11 +86,7 @@ impl<'a, O: Sink> StoreWriter<'a, O> {
 
 /// Writes the header of a file of this codec and number of channels (RFC 4867, 5.1 and 5.2).
 fn write_header<O: Sink>(codec: Codec, channels: u8, sink: &mut O) -> Result<(), Failed>
-    ensures whole { OnOk result
-        (Appends (O.got sink.old) (O.got sink.new) (header codec channels)) }
-    ensures part { OnErr result
-        (AppendsFront (O.got sink.old) (O.got sink.new) (header codec channels)) }
-    ensures step { SinkStep O.Sink sink.old sink.new result }
+    ensures { WroteText O.Sink (header codec channels) sink.old sink.new result }
 {
     if channels == 1 {
         return write_whole(sink, magic(codec));
@@ -135,12 +120,7 @@ pub(crate) fn multichannel_magic(codec: Codec) -> &'static [u8]
 /// `Failed` comes only where the sink's faults rose. A front of the octets was then written.
 pub fn write_cells<O: Sink>(cells: &[Cell], sink: &mut O) -> Result<(), Failed>
     requires { AllByRecursion (λ (cell : Cell). cell.ft ≤ 15) cells.now }
-
-    ensures whole { OnOk result
-        (Appends (O.got sink.old) (O.got sink.new) (block_text (frames_of cells.now))) }
-    ensures part { OnErr result
-        (AppendsFront (O.got sink.old) (O.got sink.new) (block_text (frames_of cells.now))) }
-    ensures step { SinkStep O.Sink sink.old sink.new result }
+    ensures { WroteText O.Sink (block_text (frames_of cells.now)) sink.old sink.new result }
 {
     let mut octets = [0u8; 61];
     for cell in cells {

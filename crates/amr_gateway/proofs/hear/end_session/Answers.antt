@@ -9,11 +9,8 @@ use Rattle.spec_session.specs.Counts.{block_count}
 use Rattle.spec_session.specs.Release.{gone_out, released}
 use Rattle.amr_gateway.proofs.hear.end_session.Goals as goal
 
-pub resume-writer-requires-clause-some : goal.resume-writer-requires-clause-some
-resume-writer-requires-clause-some g c = (channels_within c.args.job.now.plan c.requires.served.served.plan).0
-
-pub resume-writer-requires-clause-most : goal.resume-writer-requires-clause-most
-resume-writer-requires-clause-most g c = (channels_within c.args.job.now.plan c.requires.served.served.plan).1
+pub resume-writer-requires : goal.resume-writer-requires
+resume-writer-requires g c = channels_within c.args.job.now.plan c.requires.served.served.plan
 
 pub finish-requires-clause-sink : goal.finish-requires-clause-sink
 finish-requires-clause-sink g c = record {

@@ -13,11 +13,8 @@ use Rattle.spec_session.specs.Release.{gone_out}
 use Rattle.spec_session.specs.Session.{accepted}
 use Rattle.amr_gateway.proofs.hear.offer.Goals as goal
 
-pub resume-writer-requires-clause-some : goal.resume-writer-requires-clause-some
-resume-writer-requires-clause-some g c = (channels_within c.args.job.now.plan c.requires.served.served.plan).0
-
-pub resume-writer-requires-clause-most : goal.resume-writer-requires-clause-most
-resume-writer-requires-clause-most g c = (channels_within c.args.job.now.plan c.requires.served.served.plan).1
+pub resume-writer-requires : goal.resume-writer-requires
+resume-writer-requires g c = channels_within c.args.job.now.plan c.requires.served.served.plan
 
 pub offer-requires-clause-sink : goal.offer-requires-clause-sink
 offer-requires-clause-sink g c = record {

@@ -1,4 +1,4 @@
-use Rattle.std.proofs.Common.{◌+◌, drop, refl, ◌∙◌, subst, arith}
+use Rattle.std.proofs.Common.{◌+◌, drop, refl, ◌∙◌, rules, subst, arith}
 use Rattle.std.specs.Io.KnownBytes.{Appends}
 use Rattle.std.proofs.KnownBytes.{Appends-nil, Appends-trans}
 use Rattle.amr_frame.specs.Blocks.{frames_of}
@@ -24,13 +24,17 @@ loop-cell-preserved g c =
       same = g.met.O.Sink.transitive _ _ _ before.same clauses.same;
     }
 
-pub returns-in_err-write_whole-clause-part : goal.returns-in_err-write_whole-clause-part
-returns-in_err-write_whole-clause-part g c =
+pub returns-in_err-write_whole : goal.returns-in_err-write_whole
+returns-in_err-write_whole g c =
     let before = c.loop-cell.invariant in
     let clauses = c.in_err-write_whole.ensures in
     let i = c.loop-cell.cell-index in
     let cells = c.args.cells.now in
     let text = cells_next cells i c.cell-item.result _ (omega arith) c.cell-item.is c.write_frame-count.ensures.octets in
-    on_err c.from_residual.result
-    (subst (AppendsFront (g.O.Sink.got c.args.sink.now) (g.O.Sink.got c.write_whole.new.sink)) (cells_split cells (i + 1) _ text)
-    (front_of_more _ _ _ (block_text (frames_of (drop (i + 1) cells))) (then_front _ (g.O.Sink.got c.loop-cell.sink) _ _ _ before.put (part_is_front _ _ _ clauses.part))))
+    record {
+      whole = search rules;
+      part = on_err c.from_residual.result
+          (subst (AppendsFront (g.O.Sink.got c.args.sink.now) (g.O.Sink.got c.write_whole.new.sink)) (cells_split cells (i + 1) _ text)
+          (front_of_more _ _ _ (block_text (frames_of (drop (i + 1) cells))) (then_front _ (g.O.Sink.got c.loop-cell.sink) _ _ _ before.put (part_is_front _ _ _ clauses.part))));
+      step = search rules;
+    }
