@@ -4,7 +4,6 @@ use Rattle.std.specs.Io.KnownBytes.{Appends}
 use Rattle.std.proofs.lemmas.List.{append-nil}
 use Rattle.amr_cli.proofs.Verdicts.{IsRefused, Refuses}
 use Rattle.amr_cli.specs.Noted.{Noted, lines_of, notes_at}
-use Rattle.amr_io.specs.Steps.{SinkStep}
 use Rattle.amr_io.specs.declared.sink.Sink as sink
 use Rattle.amr_io.specs.Told.{AppendsFront}
 use Rattle.amr_cli.specs.declared.status.Status.{Status}
@@ -50,9 +49,9 @@ done_text m all c e is same =
 
 -- what a call that writes a text did to the notes
 pub noted_by : {S E : Type 0} (k : sink.Ghosts S) (text : List ℕ) (old new : S) (r : Result (Unit {0}) E)
-    → Writes k text old new r → SinkStep k old new r → Noted (written_to k old new) text
-noted_by k text old new (Ok x) wrote step = inl (step.cause, wrote.whole)
-noted_by k text old new (Err e) wrote step = inr (step.cause, wrote.part)
+    → Writes k text old new r → Noted (written_to k old new) text
+noted_by k text old new (Ok x) wrote = inl (wrote.step.cause, wrote.whole)
+noted_by k text old new (Err e) wrote = inr (wrote.step.cause, wrote.part)
 
 -- notes that got all of a text, and notes that got a front of it
 pub front_of : (notes : Flow) (text : List ℕ) → Noted notes text → AppendsFront notes.told notes.told' text

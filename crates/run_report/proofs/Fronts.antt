@@ -1,8 +1,11 @@
 -- What is written by one call, or by one behind another.
-use Rattle.std.proofs.Common.{arith, flat_map, ◌<◌, ◌≤◌, ◌-◌, length, slice_index_or, ◌≡◌, ℕ, List, [], ◌∷◌, ◌++◌, take, drop, refl, sym, ap, ◌∙◌, append_assoc, Option, Result, Ok, Err, OnErr, OnOk}
-use Rattle.std.proofs.lemmas.List.{append-nil, take-append-drop, take_all}
-use Rattle.std.proofs.KnownBytes.{Appends-nil, Appends-trans}
+use Rattle.std.proofs.Common.{arith, flat_map, ◌<◌, ◌-◌, length, slice_index_or, ◌≡◌, ℕ, List, [], ◌∷◌, ◌++◌, take}
+use Rattle.std.proofs.Common.{drop, refl, sym, ap, ◌∙◌, subst, append_assoc, Option, Result, Ok, Err, OnErr, OnOk}
+use Rattle.std.proofs.lemmas.List.{take-append-drop, take_all}
+use Rattle.std.proofs.KnownBytes.{Appends-trans}
 use Rattle.std.specs.Io.KnownBytes.{Appends}
+use Rattle.amr_io.specs.Fault.{Rose}
+use Rattle.amr_io.specs.Steps.{SinkStep}
 use Rattle.amr_io.specs.Told.{AppendsFront, AppendsPart}
 use Rattle.amr_io.specs.declared.sink.Sink as sink
 use Rattle.refusals.specs.declared.answer.RefusedType.{RefusedType}
@@ -34,23 +37,10 @@ module _ {S E : Type 0} (k : sink.Ghosts S) where
   -- one call that writes all of a text, or a proper prefix of it
   pub writes_once : (text : List ℕ) (old new : S) (r : Result (Unit {0}) E)
       → OnOk r (Appends (k.got old) (k.got new) text) → OnErr r (AppendsPart (k.got old) (k.got new) text)
-      → (text ≡ [] → (r ≡ Ok tt) × (new ≡ old)) → Writes k text old new r
-  writes_once text old new (Ok x) whole part none = record { whole = whole; part = tt; none = none }
-  writes_once text old new (Err e) whole part none = record { whole = tt; part = part_is_front _ _ text part; none = none }
-
-  -- one call behind another
-  pub writes_both : (a b : List ℕ) (old mid new : S) (r : Result (Unit {0}) E)
-      → Writes {E = E} k a old mid (Ok tt) → Writes k b mid new r → Writes k (a ++ b) old new r
-  writes_both a b old mid new (Ok x) f s = record {
-    whole = Appends-trans (k.got old) (k.got mid) (k.got new) a b f.whole s.whole;
-    part = tt;
-    none = λ e. ((s.none (no_second a b e)).0, (s.none (no_second a b e)).1 ∙ (f.none (no_first a b e)).1);
-  }
-  writes_both a b old mid new (Err e) f s = record {
-    whole = tt;
-    part = then_front (k.got old) (k.got mid) (k.got new) a b f.whole s.part;
-    none = λ z. ((s.none (no_second a b z)).0, (s.none (no_second a b z)).1 ∙ (f.none (no_first a b z)).1);
-  }
+      → (text ≡ [] → (r ≡ Ok tt) × (new ≡ old)) → SinkStep k old new r → Writes k text old new r
+  writes_once text old new (Ok x) whole part none step = record { whole = whole; part = tt; none = none; step = step }
+  writes_once text old new (Err e) whole part none step =
+      record { whole = tt; part = part_is_front _ _ text part; none = none; step = step }
 
   -- a call that failed, behind which nothing more is tried
   pub writes_first : (a b : List ℕ) (old new : S) (e : E)
@@ -59,11 +49,38 @@ module _ {S E : Type 0} (k : sink.Ghosts S) where
     whole = tt;
     part = front_of_more (k.got old) (k.got new) a b f.part;
     none = λ z. f.none (no_first a b z);
+    step = f.step;
   }
 
-  -- no call
-  pub writes_none : (old : S) → Writes {E = E} k [] old old (Ok tt)
-  writes_none old = record { whole = Appends-nil (k.got old); part = tt; none = λ _. (refl, refl) }
+  -- one call behind another, where what still writes to the same object through both does so
+  module _ (through : (a b c : S) → k.same a b → k.same b c → k.same a c) where
+    both_steps : (old mid new : S) (r : Result (Unit {0}) E) → SinkStep {A = Unit {0}} {E = E} k old mid (Ok tt)
+        → SinkStep k mid new r → SinkStep k old new r
+    both_steps old mid new (Ok x) f s = record {
+      cause = s.cause ∙ f.cause;
+      beside = s.beside ∙ f.beside;
+      same = through old mid new f.same s.same;
+    }
+    both_steps old mid new (Err e) f s = record {
+      cause = subst (λ n. Rose n (k.faults new)) f.cause s.cause;
+      beside = s.beside ∙ f.beside;
+      same = through old mid new f.same s.same;
+    }
+
+    pub writes_both : (a b : List ℕ) (old mid new : S) (r : Result (Unit {0}) E)
+        → Writes {E = E} k a old mid (Ok tt) → Writes k b mid new r → Writes k (a ++ b) old new r
+    writes_both a b old mid new (Ok x) f s = record {
+      whole = Appends-trans (k.got old) (k.got mid) (k.got new) a b f.whole s.whole;
+      part = tt;
+      none = λ e. ((s.none (no_second a b e)).0, (s.none (no_second a b e)).1 ∙ (f.none (no_first a b e)).1);
+      step = both_steps old mid new (Ok x) f.step s.step;
+    }
+    writes_both a b old mid new (Err e) f s = record {
+      whole = tt;
+      part = then_front (k.got old) (k.got mid) (k.got new) a b f.whole s.part;
+      none = λ z. ((s.none (no_second a b z)).0, (s.none (no_second a b z)).1 ∙ (f.none (no_first a b z)).1);
+      step = both_steps old mid new (Err e) f.step s.step;
+    }
 
 -- the lines of some types: that of the first, and those of the rest
 pub types_lines : (types : List RefusedType) (d : RefusedType) (line : List ℕ) → 0 < length types

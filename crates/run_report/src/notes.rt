@@ -1,6 +1,5 @@
 // The notes of a run, written to a sink.
 ghost use Rattle.std.specs.Prelude.{flat_map};
-ghost use Rattle.amr_io.specs.Steps.{SinkStep};
 ghost use Rattle.run_report.specs.Lines.{count_lines, notes_of, told_at, type_line, usage_line};
 ghost use Rattle.run_report.specs.Written.{Writes};
 
@@ -14,8 +13,7 @@ use refusals::RefusedType;
 ///
 /// `Failed` comes only where the sink's faults rose. A front of the line was then written.
 pub fn write_usage<E: Sink>(notes: &mut E) -> Result<(), Failed>
-    ensures writes { Writes E.Sink usage_line notes.old notes.new result }
-    ensures step { SinkStep E.Sink notes.old notes.new result }
+    ensures { Writes E.Sink usage_line notes.old notes.new result }
 {
     write_line(notes, &gather_usage())
 }
@@ -29,8 +27,7 @@ pub fn write_notes<E: Sink>(
     lines: CountLines,
     report: &RunReport,
 ) -> Result<(), Failed>
-    ensures writes { Writes E.Sink (notes_of lines report.now) notes.old notes.new result }
-    ensures step { SinkStep E.Sink notes.old notes.new result }
+    ensures { Writes E.Sink (notes_of lines report.now) notes.old notes.new result }
 {
     match write_told(notes, lines, report) {
         Ok(()) => write_line(notes, &gather_end(report.end)),
@@ -40,9 +37,8 @@ pub fn write_notes<E: Sink>(
 
 /// Writes the lines of the counts of a run that tells them.
 fn write_told<E: Sink>(notes: &mut E, lines: CountLines, report: &RunReport) -> Result<(), Failed>
-    ensures writes { Writes E.Sink (told_at report.now.end (count_lines lines report.now.counts))
+    ensures { Writes E.Sink (told_at report.now.end (count_lines lines report.now.counts))
         notes.old notes.new result }
-    ensures step { SinkStep E.Sink notes.old notes.new result }
 {
     if report.end.is_finished() {
         write_counts(notes, lines, &report.counts)
@@ -53,8 +49,7 @@ fn write_told<E: Sink>(notes: &mut E, lines: CountLines, report: &RunReport) -> 
 
 /// Writes the lines of the counts of a command.
 fn write_counts<E: Sink>(notes: &mut E, lines: CountLines, counts: &Counts) -> Result<(), Failed>
-    ensures writes { Writes E.Sink (count_lines lines counts.now) notes.old notes.new result }
-    ensures step { SinkStep E.Sink notes.old notes.new result }
+    ensures { Writes E.Sink (count_lines lines counts.now) notes.old notes.new result }
 {
     match lines {
         CountLines::None => Ok(()),
@@ -70,8 +65,7 @@ fn write_counts<E: Sink>(notes: &mut E, lines: CountLines, counts: &Counts) -> R
 
 /// Writes a line for each offered payload type that doesn't suit.
 fn write_types<E: Sink>(notes: &mut E, types: &[RefusedType]) -> Result<(), Failed>
-    ensures writes { Writes E.Sink (flat_map type_line types.now) notes.old notes.new result }
-    ensures step { SinkStep E.Sink notes.old notes.new result }
+    ensures { Writes E.Sink (flat_map type_line types.now) notes.old notes.new result }
 {
     let [first, more @ ..] = types else {
         return Ok(());
@@ -84,8 +78,7 @@ fn write_types<E: Sink>(notes: &mut E, types: &[RefusedType]) -> Result<(), Fail
 
 /// Writes a gathered line.
 fn write_line<E: Sink>(notes: &mut E, line: &Line) -> Result<(), Failed>
-    ensures writes { Writes E.Sink line.now.bytes notes.old notes.new result }
-    ensures step { SinkStep E.Sink notes.old notes.new result }
+    ensures { Writes E.Sink line.now.bytes notes.old notes.new result }
 {
     write_whole(notes, line.as_str().as_bytes())
 }

@@ -1,11 +1,13 @@
-use Rattle.std.proofs.Common.{◌∙◌, subst, sym}
+use Rattle.std.proofs.Common.{◌∙◌, subst}
 use Rattle.run_report.specs.Written.{Writes}
 use Rattle.run_report.proofs.Fronts.{writes_once}
 use Rattle.run_report.proofs.notes.write_line.Goals as goal
 
-pub returns-clause-writes : goal.returns-clause-writes
-returns-clause-writes g c =
+pub returns : goal.returns
+returns g c =
     let is = c.as_bytes.ensures.value ∙ c.as_str.ensures.value in
     let wrote = c.write_whole.ensures in
     subst (λ text. Writes g.E.Sink text c.args.notes.now c.write_whole.new.sink c.write_whole.result) is
-    (writes_once g.E.Sink c.as_bytes.result.now c.args.notes.now c.write_whole.new.sink c.write_whole.result wrote.whole wrote.part wrote.empty)
+    (writes_once g.E.Sink c.as_bytes.result.now c.args.notes.now c.write_whole.new.sink c.write_whole.result
+    wrote.whole wrote.part wrote.empty
+    (record { cause = wrote.cause; beside = wrote.beside; same = wrote.same }))
