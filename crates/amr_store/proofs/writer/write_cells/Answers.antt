@@ -34,7 +34,9 @@ returns-in_err-write_whole g c =
     record {
       whole = search rules;
       part = on_err c.from_residual.result
-          (subst (AppendsFront (g.O.Sink.got c.args.sink.now) (g.O.Sink.got c.write_whole.new.sink)) (cells_split cells (i + 1) _ text)
-          (front_of_more _ _ _ (block_text (frames_of (drop (i + 1) cells))) (then_front _ (g.O.Sink.got c.loop-cell.sink) _ _ _ before.put (part_is_front _ _ _ clauses.part))));
+          (subst (AppendsFront (g.O.Sink.got c.args.sink.now) (g.O.Sink.got c.write_whole.new.sink))
+          (cells_split cells (i + 1) _ text)
+          (front_of_more _ _ _ (block_text (frames_of (drop (i + 1) cells)))
+          (then_front _ (g.O.Sink.got c.loop-cell.sink) _ _ _ before.put (part_is_front _ _ _ clauses.part))));
       step = search rules;
     }

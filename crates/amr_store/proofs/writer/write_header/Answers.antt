@@ -14,7 +14,8 @@ returns-then-channels-eq1 g c =
     record {
       whole = search rules;
       part = on_err_weaker c.write_whole.result
-          (λ part. subst (AppendsFront (g.O.Sink.got c.args.sink.now) (g.O.Sink.got c.write_whole.new.sink)) is (part_is_front _ _ _ part))
+          (λ part. subst (AppendsFront (g.O.Sink.got c.args.sink.now) (g.O.Sink.got c.write_whole.new.sink)) is
+          (part_is_front _ _ _ part))
           c.write_whole.ensures.part;
       step = search rules;
     }
@@ -22,27 +23,32 @@ returns-then-channels-eq1 g c =
 pub returns-in_err-write_whole : goal.returns-in_err-write_whole
 returns-in_err-write_whole g c =
     let tail = 0 ∷ 0 ∷ 0 ∷ c.args.channels ∷ [] in
-    let is = ap (λ magic. magic ++ tail) c.multichannel_magic.ensures ∙ sym (header_of_many c.args.codec c.args.channels c.if-channels-eq1.false) in
+    let is = ap (λ magic. magic ++ tail) c.multichannel_magic.ensures
+    ∙ sym (header_of_many c.args.codec c.args.channels c.if-channels-eq1.false) in
     record {
       whole = search rules;
       part = on_err c.from_residual.result
           (subst (AppendsFront (g.O.Sink.got c.args.sink.now) (g.O.Sink.got c.write_whole-2.new.sink)) is
-          (front_of_more _ _ c.multichannel_magic.result.now tail (part_is_front _ _ _ c.in_err-write_whole.ensures.part)));
+          (front_of_more _ _ c.multichannel_magic.result.now tail
+          (part_is_front _ _ _ c.in_err-write_whole.ensures.part)));
       step = search rules;
     }
 
 pub returns : goal.returns
 returns g c =
     let tail = 0 ∷ 0 ∷ 0 ∷ c.args.channels ∷ [] in
-    let is = ap (λ magic. magic ++ tail) c.multichannel_magic.ensures ∙ sym (header_of_many c.args.codec c.args.channels c.if-channels-eq1.false) in
+    let is = ap (λ magic. magic ++ tail) c.multichannel_magic.ensures
+    ∙ sym (header_of_many c.args.codec c.args.channels c.if-channels-eq1.false) in
     record {
       whole = on_ok_weaker c.write_whole-3.result
           (λ whole. subst (Appends (g.O.Sink.got c.args.sink.now) (g.O.Sink.got c.write_whole-3.new.sink)) is
-          (Appends-trans _ (g.O.Sink.got c.write_whole-2.new.sink) _ c.multichannel_magic.result.now tail c.in_ok-write_whole.ensures.whole whole))
+          (Appends-trans _ (g.O.Sink.got c.write_whole-2.new.sink) _ c.multichannel_magic.result.now tail
+          c.in_ok-write_whole.ensures.whole whole))
           c.write_whole-3.ensures.whole;
       part = on_err_weaker c.write_whole-3.result
           (λ part. subst (AppendsFront (g.O.Sink.got c.args.sink.now) (g.O.Sink.got c.write_whole-3.new.sink)) is
-          (then_front _ (g.O.Sink.got c.write_whole-2.new.sink) _ c.multichannel_magic.result.now tail c.in_ok-write_whole.ensures.whole (part_is_front _ _ _ part)))
+          (then_front _ (g.O.Sink.got c.write_whole-2.new.sink) _ c.multichannel_magic.result.now tail
+          c.in_ok-write_whole.ensures.whole (part_is_front _ _ _ part)))
           c.write_whole-3.ensures.part;
       step = search rules;
     }
