@@ -1,15 +1,15 @@
 -- Each segment is a session of its own: all of its packets are accepted where they come alone.
 use Rattle.std.proofs.Common.{◌≡◌, true, false, cond, List, [], ◌∷◌, ◌++◌, sym, refl, ap, ◌∙◌, subst, Option, Some}
 use Rattle.std.proofs.Common.{None, ℤ, pos, ◌+ℤ◌, eqb}
-use Rattle.std.specs.Prelude.{⊤, int_le, fold}
+use Rattle.std.specs.Prelude.{⊤, int_le}
 use Rattle.std.specs.List.{AllByRecursion}
 use Rattle.std.proofs.lemmas.List.{map-append}
 use Rattle.std.proofs.lemmas.List.Sums.{fold-append}
 use Rattle.amr_bits.proofs.Lists.{all_append}
 use Rattle.amr_frame.specs.Tables.{ticks}
-use Rattle.segment_laws.proofs.Steps.{Step, Joins, Opens, Stays, step}
+use Rattle.segment_laws.proofs.Steps.{Step, Joins, Opens, Stays, kept_by_steps}
 use Rattle.segment_laws.specs.One.{IsAlone, packets}
-use Rattle.spec_segments.specs.Segments.{Segments, all_of, at_start, segments, with_packet}
+use Rattle.spec_segments.specs.Segments.{Segments, all_of, at_start, segments}
 use Rattle.spec_session.specs.Packets.{Packet}
 use Rattle.spec_session.specs.Places.{apart, place_near}
 use Rattle.spec_session.specs.Session as session
@@ -67,14 +67,8 @@ alone_step rules s x t (Opens n e) k =
     subst (AllAlone rules) (sym e) (all_append (IsAlone rules) s.closed (s.last ∷ []) k.0 (k.1, tt), refl)
 alone_step rules s x t (Stays o n e) k = subst (AllAlone rules) (sym e) k
 
-alone_fold : (rules : Rules) (h : List Packet) (s : Segments) → AllAlone rules s →
-    AllAlone rules (fold (with_packet rules) s h)
-alone_fold rules [] s k = k
-alone_fold rules (x ∷ h) s k =
-    alone_fold rules h (with_packet rules s x) (alone_step rules s x (with_packet rules s x) (step rules s x) k)
-
 pub all_alone : (rules : Rules) (h : List Packet) → AllAlone rules (segments rules h)
-all_alone rules h = alone_fold rules h at_start (tt, refl)
+all_alone rules h = kept_by_steps rules (AllAlone rules) (alone_step rules) h at_start (tt, refl)
 
 pub alone_of : (rules : Rules) (h : List Packet) → AllByRecursion (IsAlone rules) (all_of (segments rules h))
 alone_of rules h =

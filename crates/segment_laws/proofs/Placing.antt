@@ -1,7 +1,7 @@
 -- Where the packets of a segment stand.
 use Rattle.std.proofs.Common.{◌≡◌, inl, inr, Bool, true, false, cond, List, [], ◌∷◌, ◌++◌, sym, refl, ap, ◌∙◌, subst}
 use Rattle.std.proofs.Common.{arith, Option, Some, None, ℤ, pos, ◌+ℤ◌}
-use Rattle.std.specs.Prelude.{⊤, ◌≤ℤ◌, int_le, fold}
+use Rattle.std.specs.Prelude.{⊤, ◌≤ℤ◌, int_le}
 use Rattle.std.specs.List.{AllByRecursion}
 use Rattle.std.proofs.lemmas.Int.{ints}
 use Rattle.std.proofs.lemmas.List.{append-nil, append_assoc}
@@ -9,10 +9,10 @@ use Rattle.std.proofs.lemmas.Bool.Decides.{eqb_tells}
 use Rattle.amr_bits.proofs.Lists.{all_append, all_more}
 use Rattle.amr_frame.specs.Tables.{ticks}
 use Rattle.segment_laws.proofs.Alone.{accepts_it}
-use Rattle.segment_laws.proofs.Steps.{Step, Joins, Opens, Stays, step}
+use Rattle.segment_laws.proofs.Steps.{Step, Joins, Opens, Stays, kept_by_steps}
 use Rattle.segment_laws.specs.Placed.{IsPlaceIn, IsSegment, StandsBehind}
 use Rattle.session_laws.proofs.Places.{found, only}
-use Rattle.spec_segments.specs.Segments.{Segments, all_of, at_start, segments, with_packet}
+use Rattle.spec_segments.specs.Segments.{Segments, all_of, at_start, segments}
 use Rattle.spec_session.specs.Packets.{Packet}
 use Rattle.spec_session.specs.Places.{apart, place_near}
 use Rattle.spec_session.specs.Session.{Rules, Accepted, Verdict, Accept, OtherSource, OffGrid, FarAhead, at_place}
@@ -115,12 +115,6 @@ follow_step rules s x t (Opens n e) k =
     subst (AllFollow rules) (sym e) (all_append (Follow rules []) s.closed (s.last ∷ []) k.0 (k.1, tt), (refl, tt))
 follow_step rules s x t (Stays o n e) k = subst (AllFollow rules) (sym e) k
 
-follow_fold : (rules : Rules) (h : List Packet) (s : Segments) → AllFollow rules s →
-    AllFollow rules (fold (with_packet rules) s h)
-follow_fold rules [] s k = k
-follow_fold rules (x ∷ h) s k =
-    follow_fold rules h (with_packet rules s x) (follow_step rules s x (with_packet rules s x) (step rules s x) k)
-
 -- what begins a segment is the packet with place 0
 begins : (rules : Rules) (start : Accepted) (rest : List Accepted) → Follow rules [] (start ∷ rest) →
     start ≡ begun start.packet
@@ -136,6 +130,6 @@ is_segment rules segment k = record {
 pub segments_of : (rules : Rules) (h : List Packet) → AllByRecursion (IsSegment rules) (all_of (segments rules h))
 segments_of rules h =
     let s = segments rules h in
-    let k = follow_fold rules h at_start (tt, tt) in
+    let k = kept_by_steps rules (AllFollow rules) (follow_step rules) h at_start (tt, tt) in
     all_more (Follow rules []) (IsSegment rules) (all_of s) (is_segment rules)
     (all_append (Follow rules []) s.closed (s.last ∷ []) k.0 (k.1, tt))

@@ -12,6 +12,8 @@ use Rattle.session_laws.proofs.Recordings.{more_packets}
 use Rattle.spec_record.specs.Recording as recording
 use Rattle.spec_record.specs.Recording.{Recording}
 use Rattle.spec_segments.specs.Release.{gone_out, released}
+use Rattle.spec_session.specs.Packets.{Packet}
+use Rattle.spec_session.specs.Session.{Rules}
 use Rattle.spec_store.specs.StorageFile.{block_text, header, storage_file}
 
 stored_front : (r : Recording) (blocks all : List (List Frame)) → IsFront blocks all →
@@ -24,19 +26,24 @@ stored_front r blocks all f =
           ∙ sym (append_assoc head (flat_map block_text blocks) (flat_map block_text f.0)),
     )
 
+-- what the first records have let out is a front of what more of them mean, by what it is of blocks
+front_by : (r : Recording) (out : Rules → List Packet → List (List Frame)) (records more : List (List ℕ)) →
+    IsFront (gone_out r.rules (heard r records)) (out r.rules (heard r records ++ heard r more)) →
+    IsFront (early_of r records)
+    (storage_file r.rules.codec r.rules.channels (out r.rules (heard r (records ++ more))))
+front_by r out records more g =
+    stored_front r (gone_out r.rules (heard r records)) (out r.rules (heard r (records ++ more)))
+    (g.0, ap (out r.rules) (more_packets r records more) ∙ g.1)
+
 pub early_front : (r : Recording) (records more : List (List ℕ)) →
     IsFront (early_of r records) (early_of r (records ++ more))
 early_front r records more =
-    let g = gone_stays r.rules (heard r records) (heard r more) in
-    stored_front r (gone_out r.rules (heard r records)) (gone_out r.rules (heard r (records ++ more)))
-    (g.0, ap (gone_out r.rules) (more_packets r records more) ∙ g.1)
+    front_by r gone_out records more (gone_stays r.rules (heard r records) (heard r more))
 
 pub file_front : (r : Recording) (records more : List (List ℕ)) →
     IsFront (early_of r records) (file_of r (records ++ more))
 file_front r records more =
-    let g = gone_in_release r.rules (heard r records) (heard r more) in
-    stored_front r (gone_out r.rules (heard r records)) (released r.rules (heard r (records ++ more)))
-    (g.0, ap (released r.rules) (more_packets r records more) ∙ g.1)
+    front_by r released records more (gone_in_release r.rules (heard r records) (heard r more))
 
 -- of one segment both are as without segments
 pub same_file : (r : Recording) (records : List (List ℕ)) → IsOneSegment r.rules (heard r records) →

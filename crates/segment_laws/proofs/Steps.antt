@@ -1,5 +1,6 @@
 -- What one packet does to segments, and what holds of every segment by it.
-use Rattle.std.proofs.Common.{◌≡◌, ℕ, true, false, cond, [], ◌∷◌, ◌++◌, refl, ap, ◌∙◌, Option, Some, None}
+use Rattle.std.proofs.Common.{◌≡◌, ℕ, true, false, cond, List, [], ◌∷◌, ◌++◌, refl, ap, ◌∙◌, Option, Some, None}
+use Rattle.std.specs.Prelude.{fold}
 use Rattle.spec_segments.specs.Segments.{Segments, Begins, Within, follows, judged, passed, with_packet}
 use Rattle.spec_session.specs.Packets.{Packet}
 use Rattle.spec_session.specs.Session as session
@@ -40,3 +41,11 @@ step_by rules s x (FarAhead h last) e = unplaced_step rules s x (FarAhead h last
 
 pub step : (rules : Rules) (s : Segments) (x : Packet) → Step rules s x (with_packet rules s x)
 step rules s x = step_by rules s x (session.verdict rules s.last x) refl
+
+-- what each step keeps holds behind any packets
+pub kept_by_steps : (rules : Rules) (P : Segments → Type 0) →
+    ((s : Segments) (x : Packet) (t : Segments) → Step rules s x t → P s → P t) →
+    (h : List Packet) (s : Segments) → P s → P (fold (with_packet rules) s h)
+kept_by_steps rules P each [] s k = k
+kept_by_steps rules P each (x ∷ h) s k =
+    kept_by_steps rules P each h (with_packet rules s x) (each s x (with_packet rules s x) (step rules s x) k)
