@@ -1,20 +1,16 @@
 -- A frame of a reserved type in the next block: it is named, and there is no block more.
-use Rattle.std.proofs.Common.{◌≡◌, ℕ, zero, suc, ◌+◌, ◌<◌, ◌≤◌, Bool, true, false, not, cond, ltb, List, [], ◌∷◌, ◌++◌, length, map, take, drop, sym, refl, subst, ap, ◌∙◌, append_assoc, arith, Some, None}
-use Rattle.std.specs.Prelude.{◌&&◌, nat_eq, position, slice_index, slice_index_or, Option}
-use Rattle.std.specs.List.{fold, position_or_len, AllByRecursion}
+use Rattle.std.proofs.Common.{◌≡◌, ℕ, ◌+◌, ◌<◌, ◌≤◌, Bool, true, false, not, cond, ltb, List, [], ◌∷◌, ◌++◌, length, map, take, drop, sym, refl, subst, ap, ◌∙◌, append_assoc, arith, Some, None}
+use Rattle.std.specs.Prelude.{◌&&◌, nat_eq, slice_index, Option}
+use Rattle.std.specs.List.{fold}
 use Rattle.std.specs.Option.{option_map, unwrap_or}
-use Rattle.std.proofs.lemmas.Bool.{eq-eqb, eqb-true, lt-ltb}
+use Rattle.std.proofs.lemmas.Bool.{eq-eqb, eqb-true}
 use Rattle.std.proofs.lemmas.List.{drop-append-le, length-append, length-take-le, take-append-drop, take-append-le}
 use Rattle.std.proofs.lemmas.List.Sums.{fold-append}
 use Rattle.std.proofs.Math.Seq.{take-append_seam}
-use Rattle.amr_bits.specs.Bits.{octets_for}
 use Rattle.amr_bits.proofs.Lists.{all_append}
 use Rattle.amr_frame.specs.declared.codec.Codec.{Codec}
-use Rattle.amr_frame.specs.declared.codec.Codec.TheVariants.{Amr, AmrWb}
-use Rattle.amr_frame.specs.declared.codec.Kind.{Kind}
-use Rattle.amr_frame.specs.declared.codec.Kind.TheVariants.{Speech, Sid, Lost, Empty, Reserved}
 use Rattle.amr_frame.specs.First.{when, first}
-use Rattle.amr_frame.specs.Tables.{Row, rows, bits_in, is_reserved, octets_in}
+use Rattle.amr_frame.specs.Tables.{is_reserved, octets_in}
 use Rattle.refusals.specs.declared.store.StoreRefusal.{StoreRefusal}
 use Rattle.refusals.specs.declared.store.StoreRefusal.TheVariants as why
 use Rattle.spec_store.specs.StorageReading.{Units, blocks_in, blocks_of, channels_told, first_reserved, frame_in, frames_in, has_header, has_header_of, has_magic, header_len, is_reserved_unit, is_unit, may_have_magic, shown_refusal, store_refusal, unit_place, unit_type, units, units_in, with_octet}
@@ -24,108 +20,11 @@ use Rattle.store_laws.proofs.Cutting.{all, state}
 use Rattle.store_laws.proofs.Ended.{same_blocks, units_of}
 use Rattle.store_laws.proofs.Longer.{longer, reserved_stays, units_longer}
 use Rattle.store_laws.proofs.Headers.{and_true}
-use Rattle.store_laws.proofs.Named.{named}
+use Rattle.store_laws.proofs.Named.{last_found, named, reserved_empty}
 use Rattle.store_laws.proofs.Showing.{shown_more}
 use Rattle.store_laws.proofs.Reading.{all_known, frames_from, none_passes, unrefused}
 use Rattle.amr_store.specs.Reading.{RefusesBlock, RefusesHeader}
 use Rattle.amr_store.specs.Sights.{BlockWrong, HeaderWrong}
-
--- a row of the table has no bits where its type is reserved
-abbrev is_free : Kind → Bool
-is_free kind = elim kind [
-  | Speech ↦ false
-  | Sid ↦ false
-  | Lost ↦ false
-  | Empty ↦ false
-  | Reserved ↦ true
-]
-
-abbrev HasNone : Row → Type 0
-HasNone r = is_free r.kind ≡ true → r.bits ≡ 0
-
-row_has : (xs : List Row) (i : ℕ) (d : Row) → AllByRecursion HasNone xs → HasNone d → HasNone (slice_index_or xs i d)
-row_has [] i d h e = e
-row_has (x ∷ xs) zero d h e = h.0
-row_has (x ∷ xs) (suc i) d h e = row_has xs i d h.1 e
-
-all_rows : (codec : Codec) → AllByRecursion HasNone (rows codec)
-all_rows Amr = (
-  λ e. cc,
-  (
-    λ e. cc,
-    (
-      λ e. cc,
-      (
-        λ e. cc,
-        (
-          λ e. cc,
-          (
-            λ e. cc,
-            (
-              λ e. cc,
-              (
-                λ e. cc,
-                (
-                  λ e. cc,
-                  (λ e. refl, (λ e. refl, (λ e. refl, (λ e. refl, (λ e. refl, (λ e. refl, (λ e. cc, tt))))))),
-                ),
-              ),
-            ),
-          ),
-        ),
-      ),
-    ),
-  ),
-)
-all_rows AmrWb = (
-  λ e. cc,
-  (
-    λ e. cc,
-    (
-      λ e. cc,
-      (
-        λ e. cc,
-        (
-          λ e. cc,
-          (
-            λ e. cc,
-            (
-              λ e. cc,
-              (
-                λ e. cc,
-                (
-                  λ e. cc,
-                  (λ e. cc, (λ e. refl, (λ e. refl, (λ e. refl, (λ e. refl, (λ e. cc, (λ e. cc, tt))))))),
-                ),
-              ),
-            ),
-          ),
-        ),
-      ),
-    ),
-  ),
-)
-
-reserved_empty : (codec : Codec) (ft : ℕ) → is_reserved codec ft ≡ true → octets_in codec ft ≡ 0
-reserved_empty codec ft e =
-    let none : bits_in codec ft ≡ 0 = row_has (rows codec) ft (record { kind = Reserved; bits = 0; class_a = 0 })
-    (all_rows codec) (λ _. refl) e in
-    ap octets_for none
-
--- the last of a list is the first that passes
-last_passes : {X : Type 0} (p : X → Bool) (xs : List X) (y : X) → AllByRecursion (λ x. p x ≡ false) xs → p y ≡ true
-    → position_or_len p (xs ++ y ∷ []) ≡ length xs
-last_passes p [] y h e = ap (λ b. cond (not b) 1 0) e
-last_passes p (x ∷ xs) y h e =
-    let r = last_passes p xs y h.1 e in
-    ap (λ b. cond (not b) (1 + position_or_len p (xs ++ y ∷ [])) 0) h.0 ∙ omega (arith, r)
-
-last_found : {X : Type 0} (p : X → Bool) (xs : List X) (y : X) → AllByRecursion (λ x. p x ≡ false) xs → p y ≡ true
-    → position p (xs ++ y ∷ []) ≡ Some (length xs)
-last_found p xs y h e =
-    let l = length-append xs (y ∷ []) in
-    ap (λ n. cond (ltb n (length (xs ++ y ∷ []))) (Some n) None) (last_passes p xs y h e)
-    ∙ ap (λ b. cond b (Some (length xs)) None) (lt-ltb (length xs) (length (xs ++ y ∷ [])) (omega (arith, l)))
 
 module _ (codec : Codec) (channels : ℕ) (file : List ℕ) (one : 1 ≤ channels)
     (is : store_refusal codec channels file ≡ None) where

@@ -47,7 +47,7 @@ all_rows : (codec : Codec) → AllByRecursion HasNone (rows codec)
 all_rows Amr = (λ e. cc, (λ e. cc, (λ e. cc, (λ e. cc, (λ e. cc, (λ e. cc, (λ e. cc, (λ e. cc, (λ e. cc, (λ e. refl, (λ e. refl, (λ e. refl, (λ e. refl, (λ e. refl, (λ e. refl, (λ e. cc, tt))))))))))))))))
 all_rows AmrWb = (λ e. cc, (λ e. cc, (λ e. cc, (λ e. cc, (λ e. cc, (λ e. cc, (λ e. cc, (λ e. cc, (λ e. cc, (λ e. cc, (λ e. refl, (λ e. refl, (λ e. refl, (λ e. refl, (λ e. cc, (λ e. cc, tt))))))))))))))))
 
-reserved_empty : (codec : Codec) (ft : ℕ) → is_reserved codec ft ≡ true → octets_in codec ft ≡ 0
+pub reserved_empty : (codec : Codec) (ft : ℕ) → is_reserved codec ft ≡ true → octets_in codec ft ≡ 0
 reserved_empty codec ft e =
     let none : bits_in codec ft ≡ 0 = row_has (rows codec) ft (record { kind = Reserved; bits = 0; class_a = 0 }) (all_rows codec) (λ _. refl) e in
     ap Rattle.amr_bits.specs.Bits.octets_for none
@@ -60,7 +60,7 @@ last_passes p (x ∷ xs) y h e =
     let r = last_passes p xs y h.1 e in
     ap (λ b. cond (not b) (1 + position_or_len p (xs ++ y ∷ [])) 0) h.0 ∙ omega (arith, r)
 
-last_found : {X : Type 0} (p : X → Bool) (xs : List X) (y : X) → AllByRecursion (λ x. p x ≡ false) xs → p y ≡ true
+pub last_found : {X : Type 0} (p : X → Bool) (xs : List X) (y : X) → AllByRecursion (λ x. p x ≡ false) xs → p y ≡ true
     → position p (xs ++ y ∷ []) ≡ Some (length xs)
 last_found p xs y h e =
     let l = length-append xs (y ∷ []) in
