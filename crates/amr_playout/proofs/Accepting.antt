@@ -426,9 +426,3 @@ rest_is rules s cells (start ∷ rest) holds =
     ∙ ap (λ z. blocks_between rules cs z h)
     (sym (least_same h (at (s.horizon + rules.window)) cs holds.some holds.shows.within up))
     ∙ ap (blocks_between rules cs (least (at (s.horizon + rules.window)) cs)) (sym back)
-
-pub none_released : (rules : Rules) (before : Option Begun) (cells : List (Option Frame)) (acc : List Accepted)
-    → before ≡ None → Holds rules before cells acc → released_of rules (copies_of rules acc) ≡ gone_of rules acc
-none_released rules None cells [] e holds = refl
-none_released rules None cells (a ∷ acc) e holds = absurd holds
-none_released rules (Some s) cells acc e holds = absurd cc

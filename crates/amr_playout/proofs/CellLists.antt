@@ -1,5 +1,5 @@
 -- Lists of cells, and what they hold.
-use Rattle.std.proofs.Common.{ℕ, zero, suc, ◌<◌, ◌≡◌, Bool, true, false, cond, List, [], ◌∷◌, ◌++◌, length, take, drop, replicate, get_or, set, slice_get, refl, sym, ap, ◌∙◌, arith, Some, None}
+use Rattle.std.proofs.Common.{ℕ, zero, suc, ◌<◌, ◌≡◌, Bool, true, false, cond, List, [], ◌∷◌, ◌++◌, length, drop, replicate, set, slice_get, refl, sym, ap, ◌∙◌, arith, Some, None}
 use Rattle.std.specs.Prelude.{is_some}
 use Rattle.std.specs.List.{AllByRecursion}
 use Rattle.amr_frame.specs.declared.cell.Cell.{Cell}
@@ -24,20 +24,10 @@ held-drop zero xs = refl
 held-drop (suc n) [] = refl
 held-drop (suc n) (x ∷ xs) = held-drop n xs
 
-pub held-take : (n : ℕ) (xs : List Cell) → held_of (take n xs) ≡ take n (held_of xs)
-held-take zero xs = refl
-held-take (suc n) [] = refl
-held-take (suc n) (x ∷ xs) = ap (λ os. held x ∷ os) (held-take n xs)
-
 pub held-set : (xs : List Cell) (i : ℕ) (x : Cell) → held_of (set xs i x) ≡ set (held_of xs) i (held x)
 held-set [] i x = refl
 held-set (y ∷ xs) zero x = refl
 held-set (y ∷ xs) (suc i) x = ap (λ os. held y ∷ os) (held-set xs i x)
-
-pub held-get : (xs : List Cell) (i : ℕ) (d : Cell) → i < length xs → item (held_of xs) i ≡ held (get_or xs i d)
-held-get [] i d h = absurd (omega arith)
-held-get (y ∷ xs) zero d h = refl
-held-get (y ∷ xs) (suc i) d h = held-get xs i d (omega arith)
 
 pub present_some : (x : Cell) → is_some (held x) ≡ x.present
 present_some x = elim x.present as (λ b. is_some (cond b (Some (frame_of x)) None) ≡ b) [ true ↦ refl | false ↦ refl ]
@@ -60,12 +50,6 @@ pub all-drop : (P : Cell → Type 0) (n : ℕ) (xs : List Cell) → AllByRecursi
 all-drop P zero xs a = a
 all-drop P (suc n) [] a = tt
 all-drop P (suc n) (x ∷ xs) a = all-drop P n xs a.1
-
-pub all-get : (P : Cell → Type 0) (xs : List Cell) (i : ℕ) (d : Cell) → i < length xs → AllByRecursion P xs
-    → P (get_or xs i d)
-all-get P [] i d h a = absurd (omega arith)
-all-get P (x ∷ xs) zero d h a = a.0
-all-get P (x ∷ xs) (suc i) d h a = all-get P xs i d (omega arith) a.1
 
 -- a cell with no frame is of each codec
 pub absent_is : (codec : Codec) (x : Cell) → x.present ≡ false → frame_of x ≡ no_data → IsCell codec x

@@ -1,9 +1,8 @@
 -- What a ring of cells does to the list of what they hold.
-use Rattle.std.proofs.Common.{Option, None, if◌then◌else◌, nat_lt, slice_get, unwrap_or, ℕ, suc, ◌+◌, ◌-◌, ◌*◌, ◌<◌, ◌≤◌, ◌≡◌, List, [], ◌∷◌, ◌++◌, length, map, take, drop, replicate, get_or, refl, sym, ap, ◌∙◌, arith, length-append, length-drop, append_assoc, inl, inr}
+use Rattle.std.proofs.Common.{Option, None, ℕ, suc, ◌+◌, ◌-◌, ◌*◌, ◌<◌, ◌≤◌, ◌≡◌, List, [], ◌∷◌, ◌++◌, length, map, take, drop, replicate, get_or, refl, sym, ap, ◌∙◌, arith, length-append, length-drop, append_assoc, inl, inr}
 use Rattle.std.specs.List.{range_with_len}
 use Rattle.std.proofs.lemmas.List.{get_or-drop, get_or_append_left, get_or-append_right, get_or-replicate, ext_get_or, get_or_past, drop_more, length-replicate, replicate_more}
 use Rattle.std.proofs.lemmas.List.FromFn.{length-map-range_with_len, get_or-map-range_with_len, take-map-range_with_len, map-range_with_len_more}
-use Rattle.std.proofs.lemmas.Grind.{common_steps}
 use Rattle.std.proofs.lemmas.Bool.{cases_lt}
 use Rattle.circular_buffer.specs.Buffer.{keep_last}
 use Rattle.amr_frame.specs.Frames.{Frame}
@@ -40,19 +39,6 @@ pub length-pushed : {X : Type 0} (xs : List X) (d : X) (c : ℕ) → c ≤ lengt
     → length (drop c xs ++ replicate c d) ≡ length xs
 length-pushed xs d c h =
     omega (arith, length-append (drop c xs) (replicate c d), length-drop c xs, length-replicate c d)
-
--- the cell pushed out
-pub front_out : {X : Type 0} (xs ys : List X) (d : X) (cap c : ℕ) → length xs ≡ cap → c < cap
-    → ys ≡ drop c xs ++ replicate c d
-    → get_or (ys ++ d ∷ []) 0 d ≡ get_or xs c d
-front_out xs ys d cap c len lt is =
-    ap (λ zs. get_or (zs ++ d ∷ []) 0 d) is ∙ rw (drop_more xs c d (omega arith)) refl
-
--- what a full ring's push gives
-pub popped : {X : Type 0} (zs : List X) (d : X) (n cap : ℕ) (r : Option X) → n ≡ cap
-    → r ≡ (if nat_lt n cap then None else slice_get zs 0) → unwrap_or r d ≡ get_or zs 0 d
-popped [] d n cap r full is = grind (arith, common_steps)
-popped (z ∷ zs) d n cap r full is = grind (arith, common_steps)
 
 -- ---- sliding by whole blocks
 

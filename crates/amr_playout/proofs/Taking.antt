@@ -1,5 +1,5 @@
 -- What the frames of a packet change, one by one.
-use Rattle.std.proofs.Common.{None, refl, min, append-nil, length-append, ℕ, ◌+◌, ◌-◌, ◌*◌, ◌/◌, ◌%◌, ◌^◌, ◌<◌, ◌≤◌, ◌≡◌, Bool, true, false, cond, List, [], ◌∷◌, ◌++◌, length, map, sym, ap, ◌∙◌, arith, Option, Some, ℤ, pos, ◌+ℤ◌, ◌-ℤ◌, append_assoc, set, slice_index_or}
+use Rattle.std.proofs.Common.{None, refl, min, append-nil, length-append, ℕ, ◌+◌, ◌-◌, ◌*◌, ◌/◌, ◌%◌, ◌<◌, ◌≤◌, ◌≡◌, Bool, true, false, cond, List, [], ◌∷◌, ◌++◌, length, map, sym, ap, ◌∙◌, arith, Option, Some, ℤ, pos, ◌+ℤ◌, ◌-ℤ◌, append_assoc, set, slice_index_or}
 use Rattle.std.specs.Prelude.{◌≤ℤ◌, ◌<ℤ◌, filter, int_lt, is_some}
 use Rattle.std.specs.Int.{int_min}
 use Rattle.std.specs.List.{range_with_len}
@@ -35,9 +35,6 @@ lt_false a b h = grind (arith, ints)
 
 pub newly_in : (edge q : ℤ) (c : ℕ) (f : Frame) → edge <ℤ q → newly edge q c f ≡ copy q c f ∷ []
 newly_in edge q c f h = ap (λ b. cond b (copy q c f ∷ []) []) (lt_true edge q h)
-
-pub newly_out : (edge q : ℤ) (c : ℕ) (f : Frame) → q ≤ℤ edge → newly edge q c f ≡ []
-newly_out edge q c f h = ap (λ b. cond b (copy q c f ∷ []) []) (lt_false edge q h)
 
 -- one frame more of an accepted packet
 pub copies_more : (rules : Rules) (a : Accepted) (edge : ℤ) (n : ℕ) → IsEdge rules a edge → a.place ≤ℤ block_place a (n / rules.channels) →
@@ -76,10 +73,8 @@ spot_high n len at stride place end some lt whole high =
     let le : (at / n) * stride ≤ (len / n - 1) * stride = mul-le (at / n) stride (len / n - 1) stride low (omega arith) in
     omega (arith, ints)
 
-pub small_product : (a b : ℕ) → a < 2 ^ 16 → b < 2 ^ 8 → a * b < 2 ^ 24
-small_product a b h k = let le : a * b ≤ 65535 * 255 = mul-le a b 65535 255 (omega arith) (omega arith) in omega arith
-
-pub newly_same : (edge base q : ℤ) (c : ℕ) (f : Frame) → edge <ℤ q → base ≤ℤ q → newly (base -ℤ pos 1) q c f ≡ newly edge q c f
+pub newly_same : (edge base q : ℤ) (c : ℕ) (f : Frame) → edge <ℤ q → base ≤ℤ q
+    → newly (base -ℤ pos 1) q c f ≡ newly edge q c f
 newly_same edge base q c f h k = newly_in (base -ℤ pos 1) q c f (omega (arith, ints)) ∙ sym (newly_in edge q c f h)
 
 pub different_step : (rules : Rules) (cs : List Copy) (edge q : ℤ) (c : ℕ) (f : Frame) (had : Bool) → edge <ℤ q
@@ -109,13 +104,6 @@ frame_more rules a v edge place n f cs is here edge_is f_is =
     (ap (λ p. copies_to rules a n ++ newly edge p (n % rules.channels) f) (spot_at a v place (n / rules.channels) is here)
     ∙ ap (λ x. copies_to rules a n ++ newly edge (block_place a (n / rules.channels)) (n % rules.channels) x) (f_is ∙ ap (λ (w : Value). slice_index_or w.frames n no_data) (sym is))
     ∙ sym (copies_more rules a edge n edge_is (place_up a (n / rules.channels))))
-
-pub frame_more_least : (rules : Rules) (a : Accepted) (v : Value) (edge z y : ℤ) (place n : ℕ) (f : Frame) → a.packet.value ≡ v → a.place ≡ at place → IsEdge rules a edge →
-    f ≡ slice_index_or v.frames n no_data → y ≡ least z (copies_to rules a n) →
-    least y (newly edge (at (place + (n / rules.channels) * v.stride)) (n % rules.channels) f) ≡ least z (copies_to rules a (n + 1))
-frame_more_least rules a v edge z y place n f is here edge_is f_is y_is =
-    least_more z y (copies_to rules a n) (newly edge (at (place + (n / rules.channels) * v.stride)) (n % rules.channels) f) y_is
-    ∙ ap (least z) (frame_more rules a v edge place n f [] is here edge_is f_is)
 
 -- nothing was merged
 pub taken_none : (plan : Plan) (base : ℕ) (ring : Buffer Cell) (m : Merged) → IsRing plan ring
