@@ -26,17 +26,19 @@ pub record IsBounded (n : ℕ) (v : View) : Type 0 where
   pub copies : v.counts.copies ≤ n * 384
   pub within : IsWithin n v.session v.counts.blocks
 
--- a receiver that takes a record more: no call failed, and it heard fewer than 2^40 records
-pub record TakesRecord (v : View) : Type 0 where
-  pub unspent : v.spent ≡ false
-  pub records : ℕ
-  pub few : records < 2 ^ 40
-  pub bounded : IsBounded records v
-
 -- the job is served, and the receiver is one of its plan
 pub record IsServedBy (job : RecordJob) (v : View) : Type 0 where
   pub served : IsServed job
   pub plan : v.plan ≡ job.plan
+
+-- a receiver of a job that is served takes a record more: no call failed, and it heard fewer than
+-- 2^40 records
+pub record TakesRecord (job : RecordJob) (v : View) : Type 0 where
+  pub served : IsServedBy job v
+  pub unspent : v.spent ≡ false
+  pub records : ℕ
+  pub few : records < 2 ^ 40
+  pub bounded : IsBounded records v
 
 -- it took no record
 pub record IsNew (v : View) (c : Counts) : Type 0 where

@@ -35,8 +35,7 @@ pub fn hear<O: Sink>(
     octets: &[u8],
     output: &mut O,
 ) -> Result<Heard, Failed>
-    requires served { IsServedBy job.now receiver.old }
-    requires ready { TakesRecord receiver.old }
+    requires ready { TakesRecord job.now receiver.old }
 
     ensures heard { IfOk result (Hears job.now receiver.old receiver.new octets.now
         (O.got output.old) (O.got output.new)) }
@@ -71,9 +70,8 @@ fn offer<O: Sink>(
     payload: &PayloadView<'_>,
     output: &mut O,
 ) -> Result<Heard, Failed>
-    requires served { IsServedBy job.now receiver.old }
     requires format { format_of payload.now ≡ job.now.plan.profile }
-    requires ready { TakesRecord receiver.old }
+    requires ready { TakesRecord job.now receiver.old }
 
     ensures offered { IfOk result (Offers job.now receiver.old receiver.new
         (heard_as rtp.now payload.now) (O.got output.old) (O.got output.new)) }

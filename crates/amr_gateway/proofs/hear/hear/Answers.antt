@@ -65,7 +65,7 @@ pub returns-then-not-is_asked-clause-step : goal.returns-then-not-is_asked-claus
 returns-then-not-is_asked-clause-step g c = still g.O.Sink g.met.O.Sink.reflexive c.args.receiver.now c.args.output.now _
 
 pub read_payload-requires : goal.read_payload-requires
-read_payload-requires g c = format_valid c.args.job.now.plan c.requires.served.served.plan
+read_payload-requires g c = format_valid c.args.job.now.plan c.requires.ready.served.served.plan
 
 -- a packet whose payload is none of the format
 no_payload : (g : Over) (c : goal.In_default-read_payload g) → Meets (recording_of c.args.job.now) c.args.octets.now false false false true 0

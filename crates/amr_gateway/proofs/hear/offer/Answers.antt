@@ -14,13 +14,13 @@ use Rattle.spec_session.specs.Session.{accepted}
 use Rattle.amr_gateway.proofs.hear.offer.Goals as goal
 
 pub resume-writer-requires : goal.resume-writer-requires
-resume-writer-requires g c = channels_within c.args.job.now.plan c.requires.served.served.plan
+resume-writer-requires g c = channels_within c.args.job.now.plan c.requires.ready.served.served.plan
 
 pub offer-requires-clause-sink : goal.offer-requires-clause-sink
 offer-requires-clause-sink g c = record {
-  ready = takes_at c.args.job.now.plan c.resume-writer.result.stage c.resume-writer.result.channels c.requires.served.served.plan c.resume-writer.ensures.stage c.resume-writer.ensures.format.1;
-  codec = c.resume-writer.ensures.format.0 ∙ sym (ap (λ (p : Plan). p.profile.codec) c.requires.served.plan);
-  channels = c.resume-writer.ensures.format.1 ∙ sym (ap (λ (p : Plan). p.profile.channels) c.requires.served.plan);
+  ready = takes_at c.args.job.now.plan c.resume-writer.result.stage c.resume-writer.result.channels c.requires.ready.served.served.plan c.resume-writer.ensures.stage c.resume-writer.ensures.format.1;
+  codec = c.resume-writer.ensures.format.0 ∙ sym (ap (λ (p : Plan). p.profile.codec) c.requires.ready.served.plan);
+  channels = c.resume-writer.ensures.format.1 ∙ sym (ap (λ (p : Plan). p.profile.channels) c.requires.ready.served.plan);
 }
 
 pub offer-requires-clause-ready : goal.offer-requires-clause-ready
@@ -39,16 +39,16 @@ returns-in-Ok-clause-offered g c =
       stands = new.stands;
       out = λ h stands.
           told_at Gained g.O.Sink.got (λ (p : Plan). gone_out (rules_in p) h) (λ (p : Plan). gone_out (rules_in p) (h ++ x ∷ [])) v.plan c.args.job.now.plan _ _ _ _
-          c.requires.served.plan c.resume-writer.ensures.now (c.output-1.given.1 (sym (c.offer.ensures.same.reference ∙ c.resume-writer.ensures.same_reference)))
+          c.requires.ready.served.plan c.resume-writer.ensures.now (c.output-1.given.1 (sym (c.offer.ensures.same.reference ∙ c.resume-writer.ensures.same_reference)))
           (gained g.O.Sink.got g.O.Sink.beside g.O.Sink.same g.met.O.Sink.reflexive g.met.O.Sink.transitive c.resume-writer.result c.offer.new.out _ _ (new.out h stands));
       accepts = λ h stands.
-          subst (λ (p : Plan). length (accepted (rules_in p) (h ++ x ∷ [])) ≡ length (accepted (rules_in p) h) + 1) c.requires.served.plan
+          subst (λ (p : Plan). length (accepted (rules_in p) (h ++ x ∷ [])) ≡ length (accepted (rules_in p) h) + 1) c.requires.ready.served.plan
           (accepts (rules_in v.plan) h x (new.verdict h stands).0 (new.verdict h stands).1);
       on = record {
         unspent = new.unspent;
         bounded = λ n b.
             bounded_more n v c.offer.new.self c.in-Ok.field-0.late c.in-Ok.field-0.copies c.in-Ok.field-0.released
-            (subst IsPlan (sym c.requires.served.plan) c.requires.served.served.plan) new.grows new.few new.counts b;
+            (subst IsPlan (sym c.requires.ready.served.plan) c.requires.ready.served.served.plan) new.grows new.few new.counts b;
       };
     }
 
@@ -59,14 +59,14 @@ returns-in-Err-BlockFault-clause-part g c =
       out = λ h stands.
           told_at GainedPart g.O.Sink.got (λ (p : Plan). gone_out (rules_in p) h)
           (λ (p : Plan). gone_out (rules_in p) (h ++ heard c.args.rtp.now c.args.payload.now ∷ [])) c.args.receiver.now.plan c.args.job.now.plan _ _ _ _
-          c.requires.served.plan c.resume-writer.ensures.now (c.output-1.given.1 (sym (c.offer.ensures.same.reference ∙ c.resume-writer.ensures.same_reference)))
+          c.requires.ready.served.plan c.resume-writer.ensures.now (c.output-1.given.1 (sym (c.offer.ensures.same.reference ∙ c.resume-writer.ensures.same_reference)))
           (gained_part g.O.Sink.got g.O.Sink.beside g.O.Sink.same g.met.O.Sink.reflexive g.met.O.Sink.transitive c.resume-writer.result c.offer.new.out _ _ (failed.part h stands));
     }
 
 pub returns-in-Err-Refused-clause-offered : goal.returns-in-Err-Refused-clause-offered
 returns-in-Err-Refused-clause-offered g c =
     refused g.O.Sink.got c.args.job.now c.args.receiver.now c.offer.new.self (heard c.args.rtp.now c.args.payload.now) c.args.output.now _
-    c.resume-writer.result c.offer.new.out _ c.requires.served.plan c.requires.ready.unspent
+    c.resume-writer.result c.offer.new.out _ c.requires.ready.served.plan c.requires.ready.unspent
     c.resume-writer.ensures.now (c.output-1.given.1 (sym (c.offer.ensures.same.reference ∙ c.resume-writer.ensures.same_reference)))
     (refusal_at _ _ _ _ _ _ c.in-Err-Refused.field-0 _ c.in-Err-Refused.field-0-is c.in-Err-Refused.ensures.answer)
 

@@ -4,14 +4,16 @@ use Rattle.amr_gateway.proofs.Texts.{puts_by, puts_part_by}
 use Rattle.amr_gateway.specs.Jobs.{recording_of}
 use Rattle.amr_gateway.proofs.recorder.RecorderRecordHandler.handle.Goals as goal
 
-pub hear-requires-clause-ready : goal.hear-requires-clause-ready
-hear-requires-clause-ready g c =
-    let ready = c.requires.ready in
-    record {
-      unspent = ready.unspent;
-      records = c.args.self.now.tally.packets;
-      few = c.requires.few;
-      bounded = ready.bounded;
+pub hear-requires : goal.hear-requires
+hear-requires g c =
+    let ready = c.requires.ready in record {
+      ready = record {
+        served = c.args.self.now.served;
+        unspent = ready.unspent;
+        records = c.args.self.now.tally.packets;
+        few = c.requires.few;
+        bounded = ready.bounded;
+      };
     }
 
 pub returns-in_err-heard-clause-failed : goal.returns-in_err-heard-clause-failed
