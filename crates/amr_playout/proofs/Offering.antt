@@ -1,5 +1,5 @@
--- What an offer does to a receiver, by what its steps do, and what the end of a session does.
-use Rattle.std.proofs.Common.{◌≡◌, ℕ, ◌+◌, ◌-◌, ◌<◌, ◌≤◌, ◌++◌, List, [], ◌∷◌, length, refl, sym, ap, ◌∙◌, subst, arith, append-nil, Option, Some, None, Ok, Err, true, false}
+-- What an offer does to a receiver, by what its steps do.
+use Rattle.std.proofs.Common.{◌^◌, ◌≡◌, ℕ, ◌+◌, ◌-◌, ◌<◌, ◌≤◌, ◌++◌, List, [], ◌∷◌, length, refl, sym, ap, ◌∙◌, subst, arith, append-nil, Option, Some, None, Ok, Err, true, false}
 use Rattle.std.specs.Prelude.{map, sum}
 use Rattle.std.proofs.lemmas.List.Sums.{fold-append}
 use Rattle.amr_frame.specs.declared.block_sink.BlockSink as blocks
@@ -18,7 +18,7 @@ use Rattle.amr_playout.specs.declared.session.Begun.{Begun}
 use Rattle.amr_playout.specs.declared.step.Step.{Step}
 use Rattle.amr_playout.specs.Offers.{Fails, Refuses, Takes}
 use Rattle.amr_playout.specs.Plans.{rules_in}
-use Rattle.amr_playout.specs.Receiver.{Grows, StandsFor, View, view_of}
+use Rattle.amr_playout.specs.Receiver.{Grows, StandsFor, TakesPackets, View, view_of}
 use Rattle.amr_playout.specs.Refusals.{IsRefusal}
 use Rattle.amr_playout.specs.Standing.{Holds, IsSeat, horizon_with, last_from, placed}
 use Rattle.amr_playout.specs.Steps.{Accepts, AcceptsPart}
@@ -65,11 +65,20 @@ grows_by plan (Some t) s v place released seat reach is fits rise none =
     let near = reach t refl in (rise t refl, omega (arith, is, near))
 
 -- no more blocks go out than the horizon counts
-pub few_gone : (before : Option Begun) (horizon released : ℕ)
+few_gone : (before : Option Begun) (horizon released : ℕ)
     → ((t : Begun) → before ≡ Some t → t.horizon + released ≤ horizon)
     → (before ≡ None → released ≡ 0) → released ≤ horizon
 few_gone None horizon released rise none = let e = none refl in omega (arith, e)
 few_gone (Some t) horizon released rise none = let e = rise t refl in omega (arith, e)
+
+-- and there is room to count them
+pub counts_fit : (v : View) (horizon released : ℕ) → TakesPackets v
+    → ((t : Begun) → v.session ≡ Some t → t.horizon + released ≤ horizon) → (v.session ≡ None → released ≡ 0)
+    → horizon < 2 ^ 63 → v.counts.blocks + released < 2 ^ 64 - 4096
+counts_fit v horizon released ready rise none small =
+    let few = few_gone v.session horizon released rise none in
+    let blocks = ready.blocks in
+    omega (arith, few, small, blocks)
 
 -- a receiver that has accepted a packet, and one whose sink has failed or that was ended
 abbrev pub accepted_by : Inside → Buffer Cell → Step → Kept → View

@@ -4,9 +4,9 @@ use Rattle.std.proofs.lemmas.Bool.{cases_lt}
 use Rattle.std.proofs.lemmas.Nat.{div-add-mod', div-mul-add, mod-mul-add, mul-le}
 use Rattle.amr_frame.specs.declared.profile.Profile.{Profile}
 use Rattle.amr_frame.specs.Profiles.{group_bound}
-use Rattle.amr_playout.specs.Plans.{most_together}
+use Rattle.amr_playout.specs.Plans.{IsPlan, most_together}
 use Rattle.amr_playout.specs.declared.plan.Plan.{Plan}
-use Rattle.amr_playout.proofs.Plans.{Facts}
+use Rattle.amr_playout.proofs.Plans.{Facts, facts}
 use Rattle.amr_playout.specs.Standing.{IsFitting}
 use Rattle.spec_payload.specs.Values.{FitsGroup, IsValue, Value}
 
@@ -58,3 +58,10 @@ some_block n len some whole =
           let zero : len / n * n ≡ 0 * n = ap (λ k. k * n) none in
           omega (arith, all, zero, some))
     ]
+
+-- a payload that was read fits the plan, and so many blocks of it are counted
+pub counted_in : (plan : Plan) (p : Profile) (v : Value) (frames channels blocks : ℕ) → IsPlan plan → p ≡ plan.profile
+    → IsValue p v → frames ≡ length v.frames → channels ≡ plan.profile.channels → blocks ≡ frames / channels
+    → IsFitting plan v × (blocks ≡ length v.frames / plan.profile.channels)
+counted_in plan p v frames channels blocks planned same is count width share =
+    (fitting plan p v (facts plan planned) same is, share ∙ (λ i. count i / width i))

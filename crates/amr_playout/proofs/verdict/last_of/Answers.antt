@@ -1,7 +1,6 @@
 use Rattle.std.proofs.Common.{◌≡◌, ◌-◌, ◌*◌, ◌/◌, arith, length, sym, ap, ◌∙◌}
-use Rattle.amr_playout.proofs.Payloads.{fitting, some_block}
+use Rattle.amr_playout.proofs.Payloads.{counted_in, fitting, some_block}
 use Rattle.amr_playout.proofs.Plans.{facts}
-use Rattle.amr_playout.specs.Standing.{IsFitting}
 use Rattle.amr_toc.specs.Viewed.{viewed}
 use Rattle.spec_payload.specs.Values.{Value}
 use Rattle.amr_playout.proofs.verdict.last_of.Goals as goal
@@ -10,13 +9,12 @@ pub overflow_sub-result : goal.overflow_sub-result
 overflow_sub-result c =
     let v : Value = viewed c.args.payload.now in
     let n = c.args.plan.now.profile.channels in
-    let f : IsFitting c.args.plan.now v =
-    fitting c.args.plan.now c.args.payload.now.profile v (facts c.args.plan.now c.requires.read.planned)
-    c.requires.read.format c.frames.ensures.value in
-    let count : c.share_of-blocks.result ≡ length v.frames / n =
-    c.share_of-blocks.ensures ∙ (λ i. c.frames.ensures.frames i / c.from.ensures i) in
-    let one = some_block n (length v.frames) f.some f.whole in
-    omega (arith, one, count)
+    let f =
+    counted_in c.args.plan.now c.args.payload.now.profile v c.frames.result c.from.result c.share_of-blocks.result
+    c.requires.read.planned c.requires.read.format c.frames.ensures.value c.frames.ensures.frames c.from.ensures
+    c.share_of-blocks.ensures in
+    let one = some_block n (length v.frames) f.0.some f.0.whole in
+    omega (arith, one, f.1)
 
 pub returns-clause-fitting : goal.returns-clause-fitting
 returns-clause-fitting c =
@@ -27,13 +25,12 @@ pub returns-clause-fits : goal.returns-clause-fits
 returns-clause-fits c =
     let v : Value = viewed c.args.payload.now in
     let n = c.args.plan.now.profile.channels in
-    let f : IsFitting c.args.plan.now v =
-    fitting c.args.plan.now c.args.payload.now.profile v (facts c.args.plan.now c.requires.read.planned)
-    c.requires.read.format c.frames.ensures.value in
-    let count : c.share_of-blocks.result ≡ length v.frames / n =
-    c.share_of-blocks.ensures ∙ (λ i. c.frames.ensures.frames i / c.from.ensures i) in
-    let fits = f.fits in
+    let f =
+    counted_in c.args.plan.now c.args.payload.now.profile v c.frames.result c.from.result c.share_of-blocks.result
+    c.requires.read.planned c.requires.read.format c.frames.ensures.value c.frames.ensures.frames c.from.ensures
+    c.share_of-blocks.ensures in
+    let fits = f.0.fits in
     let same : (length v.frames / n - 1) * v.stride ≡ (c.share_of-blocks.result - 1) * c.from-2.result =
-    ap (λ k. (k - 1) * v.stride) (sym count)
+    ap (λ k. (k - 1) * v.stride) (sym f.1)
     ∙ ap (λ k. (c.share_of-blocks.result - 1) * k) (sym (c.from-2.ensures ∙ c.stride.ensures)) in
     omega (arith, same, fits)

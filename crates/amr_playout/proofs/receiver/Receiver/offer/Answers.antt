@@ -1,9 +1,9 @@
-use Rattle.std.proofs.Common.{ap, arith, sym, subst}
-use Rattle.amr_playout.proofs.Offering.{accepted_by, fails, few_gone, refuses, spent_by, takes}
+use Rattle.std.proofs.Common.{◌-◌, ◌<◌, ◌^◌, ap, arith, sym, subst}
+use Rattle.amr_playout.proofs.Offering.{accepted_by, counts_fit, fails, refuses, spent_by, takes}
 use Rattle.amr_playout.specs.declared.answers.Kept.{Kept}
 use Rattle.amr_playout.specs.Heard.{heard}
 use Rattle.amr_playout.specs.Offers.{Fails, Refuses, Takes}
-use Rattle.amr_playout.specs.Receiver.{TakesPackets, View}
+use Rattle.amr_playout.specs.Receiver.{TakesPackets, View, view_of}
 use Rattle.amr_playout.proofs.receiver.Receiver.offer.Goals as goal
 
 pub returns-in-Err-clause-answer : goal.returns-in-Err-clause-answer
@@ -19,29 +19,22 @@ returns-in-Err-clause-same g c = g.met.B.BlockSink.reflexive c.args.out.now
 pub with-self-inside-requires-clause-blocks : goal.with-self-inside-requires-clause-blocks
 with-self-inside-requires-clause-blocks g c =
     let a = c.in-Ok-accept.ensures.accepted in
-    let ready = subst TakesPackets (sym c.self.view_is) c.requires.ready in
-    let few =
-    few_gone c.self.inside.session c.in-Ok-accept.step.session.horizon c.in-Ok-accept.step.taken.released a.rise
-    a.none in
-    let small = a.inside.1 in
-    let blocks = ready.blocks in
-    omega (arith, few, small, blocks)
+    let fit =
+    counts_fit (view_of c.self.inside) c.in-Ok-accept.step.session.horizon c.in-Ok-accept.step.taken.released
+    (subst TakesPackets (sym c.self.view_is) c.requires.ready) a.rise a.none a.inside.1 in
+    omega (arith, fit)
 
 pub invariant_of-self : goal.invariant_of-self
 invariant_of-self g c =
     let a = c.in-Ok-accept.ensures.accepted in
-    let ready = subst TakesPackets (sym c.self.view_is) c.requires.ready in
-    let few =
-    few_gone c.self.inside.session c.in-Ok-accept.step.session.horizon c.in-Ok-accept.step.taken.released a.rise
-    a.none in
-    let small = a.inside.1 in
-    let blocks = ready.blocks in
     record {
       ring = c.accept.ensures.stays.ringed;
       inside = a.inside;
-      few =
-          λ e. (let gone = ap (λ (k : Kept). k.blocks) c.with-self-inside.ensures in omega
-          (arith, few, small, blocks, gone));
+      few = λ e.
+          subst (λ n. n < 2 ^ 64 - 4096) (sym (ap (λ (k : Kept). k.blocks) c.with-self-inside.ensures))
+          (counts_fit (view_of c.self.inside) c.in-Ok-accept.step.session.horizon
+          c.in-Ok-accept.step.taken.released (subst TakesPackets (sym c.self.view_is) c.requires.ready) a.rise a.none
+          a.inside.1);
     }
 
 pub invariant_of-self-in-Err-accept : goal.invariant_of-self-in-Err-accept
