@@ -19,10 +19,10 @@ use std::alloc::Global;
 
 /// Runs the program over its words, its input, its output and its notes.
 ///
-/// For every packet log, however its reads are cut, `record` writes exactly the storage file that holds, for each frame time
-/// from the earliest to the latest received in time, in order, and for each channel once, the best accepted copy in time or
-/// NO_DATA; its receiver has room for window times channels frames, reserved before the first octet is read, and no later
-/// packet is refused for memory.
+/// For every packet log, however its reads are cut, `record` writes exactly the storage file that holds, segment after
+/// segment, for each frame time from the earliest to the latest received in time, in order, and for each channel once, the
+/// best accepted copy in time or NO_DATA; its receiver has room for window times channels frames, reserved before the first
+/// octet is read, and no later packet is refused for memory.
 pub fn run_gateway<I: Source, O: Sink, E: Sink>(
     alloc: Global,
     words: &[String],

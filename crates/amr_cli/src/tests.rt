@@ -207,6 +207,58 @@ fn places_wrap_and_are_refused(rt: HostRuntime) -> Result<(), Fail> {
 }
 
 #[test]
+fn a_source_that_starts_anew_is_heard_again(rt: HostRuntime) -> Result<(), Fail> {
+    let one: Parts<'_> = &[(HEAD, 0), (&[0x3C], 31)];
+    let two: Parts<'_> = &[(HEAD, 0), (&[0x3C], 31), (&[0x3C], 31)];
+    let begun = "packets=3 null=0 rtp=0 type=0 payload=0 place=1 late=0 copies=0 blocks=2\n";
+    let apart = "packets=3 null=0 rtp=0 type=0 payload=0 place=2 late=0 copies=0 blocks=1\n";
+    // The sequence numbers and timestamps of the second and the third packet, the file and the notes.
+    let rows: [(u16, u32, u16, u32, Parts<'_>, &str); 4] = [
+        (1, 161, 2, 321, two, begun),
+        (1, 161, 3, 321, one, apart),
+        (1, 7_200_160, 2, 7_200_320, two, begun),
+        (65_535, 161, 0, 321, two, begun),
+    ];
+    for (a, early, b, late, file, notes) in rows {
+        let log = log_of(
+            rt.alloc(),
+            &[at(0, 0, SEVEN), at(a, early, SEVEN), at(b, late, SEVEN)],
+        )?;
+        recorded(&rt, &log, file, notes)?;
+    }
+    // The new segment goes on, and a packet of another source doesn't break the sequence.
+    let log = log_of(
+        rt.alloc(),
+        &[
+            at(0, 0, SEVEN),
+            at(1, 161, SEVEN),
+            at(2, 321, SEVEN),
+            at(3, 481, SEVEN),
+        ],
+    )?;
+    let notes = "packets=4 null=0 rtp=0 type=0 payload=0 place=1 late=0 copies=0 blocks=3\n";
+    recorded(
+        &rt,
+        &log,
+        &[(HEAD, 0), (&[0x3C], 31), (&[0x3C], 31), (&[0x3C], 31)],
+        notes,
+    )?;
+    let mut stranger = at(9, 160, SEVEN);
+    stranger.ssrc = 1;
+    let log = log_of(
+        rt.alloc(),
+        &[
+            at(0, 0, SEVEN),
+            at(1, 161, SEVEN),
+            stranger,
+            at(2, 321, SEVEN),
+        ],
+    )?;
+    let notes = "packets=4 null=0 rtp=0 type=0 payload=0 place=2 late=0 copies=0 blocks=2\n";
+    recorded(&rt, &log, two, notes)
+}
+
+#[test]
 fn a_long_gap_is_filled(rt: HostRuntime) -> Result<(), Fail> {
     let words = words_of(rt.alloc(), RECORD)?;
     let log = log_of(rt.alloc(), &[at(0, 0, SEVEN), at(1, 7_200_000, SEVEN)])?;

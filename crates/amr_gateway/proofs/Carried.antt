@@ -1,6 +1,6 @@
 -- What was gained, told of the sinks and the plan that a caller has.
 use Rattle.std.proofs.Common.{◌≡◌, ◌+◌, ◌++◌, [], ◌∷◌, ◌∙◌, ℕ, List, length, ap, false, sym, subst, Err, Option, Result}
-use Rattle.amr_gateway.proofs.Bounds.{bounded_same}
+use Rattle.amr_gateway.proofs.Bounds.{bounded_stray}
 use Rattle.amr_gateway.proofs.Offered.{refuses}
 use Rattle.amr_gateway.proofs.Texts.{gained_none}
 use Rattle.amr_gateway.specs.Going.{IsBounded}
@@ -14,9 +14,9 @@ use Rattle.amr_playout.specs.Plans.{rules_in}
 use Rattle.amr_playout.specs.Receiver.{View}
 use Rattle.amr_store.specs.Written.{SameSink}
 use Rattle.amr_store.specs.declared.writer.StoreWriter.{StoreWriter}
+use Rattle.spec_segments.specs.Release.{gone_out}
+use Rattle.spec_segments.specs.Segments.{accepted}
 use Rattle.spec_session.specs.Packets.{Packet}
-use Rattle.spec_session.specs.Release.{gone_out}
-use Rattle.spec_session.specs.Session.{accepted}
 use Rattle.amr_playout.specs.declared.answers.Offered.{Offered}
 use Rattle.amr_playout.specs.declared.answers.Offered.TheVariants.{BlockFault, Refused}
 use Rattle.amr_playout.specs.declared.answers.Refusal.{Refusal}
@@ -72,6 +72,6 @@ refused got job v v' x a o w w' why plan unspent before after r =
           (refuses (rules_in v.plan) h x why (r.verdict h stands));
       on = record {
         unspent = ap (λ (u : View). u.spent) r.receiver ∙ unspent;
-        bounded = λ n b. subst (IsBounded (n + 1)) (sym r.receiver) (bounded_same n v b);
+        bounded = λ n b. subst (IsBounded (n + 1)) (sym r.receiver) (bounded_stray n v _ b);
       };
     }

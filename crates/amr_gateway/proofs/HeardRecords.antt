@@ -12,8 +12,8 @@ use Rattle.amr_gateway.specs.declared.heard.Heard.{Heard}
 use Rattle.amr_gateway.specs.declared.job.RecordJob.{RecordJob}
 use Rattle.amr_playout.specs.Plans.{rules_in}
 use Rattle.amr_playout.specs.Receiver.{StandsFor, View}
+use Rattle.spec_segments.specs.Segments.{accepted}
 use Rattle.spec_session.specs.Packets.{Packet, packet_of, packets_of}
-use Rattle.spec_session.specs.Session.{accepted}
 
 -- how many packets of a list are accepted
 abbrev taken_of : RecordJob → List Packet → ℕ

@@ -14,9 +14,9 @@ use Rattle.amr_gateway.specs.declared.job.RecordJob.{RecordJob}
 use Rattle.amr_playout.specs.Plans.{rules_in}
 use Rattle.amr_playout.specs.declared.answers.Kept.{Kept}
 use Rattle.spec_record.specs.RecordCounts.{counts_of}
-use Rattle.spec_session.specs.Counts.{block_count, copy_count, late_count}
+use Rattle.spec_segments.specs.Counts.{block_count, copy_count, late_count}
+use Rattle.spec_segments.specs.Segments.{accepted}
 use Rattle.spec_session.specs.Packets.{Packet, packet_of, packets_of}
-use Rattle.spec_session.specs.Session.{accepted}
 
 count_one : (f : List ℕ → Bool) (x : List ℕ) (b : Bool) → f x ≡ b → length (filter f (x ∷ [])) ≡ cond b 1 0
 count_one f x true e = rw e refl
@@ -118,3 +118,12 @@ counted_right job t v kept records h is tallied late copies late_same copies_sam
       sent = tallied.sent i;
       refused = record { items = [] };
     }
+
+-- each record is one more, whatever became of it
+pub packets_more : (c : Counts) (heard : Heard) → (counted_as c heard).packets ≡ c.packets + 1
+packets_more c Null = refl
+packets_more c NoRtp = refl
+packets_more c OtherType = refl
+packets_more c NoPayload = refl
+packets_more c NoPlace = refl
+packets_more c Accepted = refl

@@ -1,5 +1,5 @@
 -- What a recorder holds while records come: ours.
-use Rattle.std.specs.Prelude.{◌≡◌, ℕ, ◌+◌, ◌*◌, ◌^◌, ◌≤◌, ◌<◌, false, List, [], Option, Some, None}
+use Rattle.std.specs.Prelude.{⊤, ◌≡◌, ℕ, ◌+◌, ◌*◌, ◌^◌, ◌≤◌, ◌<◌, false, List, [], Option, Some, None}
 use Rattle.amr_gateway.specs.Jobs.{IsServed, recording_of}
 use Rattle.amr_gateway.specs.Tallies.{IsSmall, Tallied}
 use Rattle.amr_gateway.specs.declared.job.RecordJob.{RecordJob}
@@ -14,17 +14,20 @@ pub record Stands (job : RecordJob) (v : View) (c : Counts) (records : List (Lis
   pub heard : StandsFor v (packets_of job.plan.profile job.pt records)
   pub tallied : Tallied (recording_of job) c records
 
--- n records take a session no further than this: a record takes the horizon no further than the
--- reach, and no more blocks went out than the horizon has passed
-abbrev pub IsWithin : ℕ → Option Begun → ℕ → Type 0
-IsWithin n None blocks = blocks ≡ 0
-IsWithin n (Some s) blocks = (blocks ≤ s.horizon) × (s.horizon ≤ 2 ^ 24 + 4096 + n * 45000)
+-- n records take a segment no further than this: a record takes the horizon no further than the
+-- reach
+abbrev pub IsWithin : ℕ → Option Begun → Type 0
+IsWithin n None = ⊤
+IsWithin n (Some s) = s.horizon ≤ 2 ^ 24 + 4096 + n * 45000
 
--- n records count no more than this: each has at most 384 late blocks and 384 copies
+-- n records count no more than this: each has at most 384 late blocks and 384 copies, puts out no
+-- more blocks than the reach, and begins at most one segment
 pub record IsBounded (n : ℕ) (v : View) : Type 0 where
   pub late : v.counts.late ≤ n * 384
   pub copies : v.counts.copies ≤ n * 384
-  pub within : IsWithin n v.session v.counts.blocks
+  pub blocks : v.counts.blocks ≤ n * 45000
+  pub segments : v.segment ≤ n
+  pub within : IsWithin n v.session
 
 -- the job is served, and the receiver is one of its plan
 pub record IsServedBy (job : RecordJob) (v : View) : Type 0 where

@@ -13,10 +13,10 @@ use Rattle.amr_playout.specs.Plans.{rules_in}
 use Rattle.amr_playout.specs.Receiver.{StandsFor, View}
 use Rattle.spec_record.specs.RecordCounts.{is_no_payload, is_no_rtp, is_null, is_other_type}
 use Rattle.spec_record.specs.Recording.{Recording}
-use Rattle.spec_session.specs.Counts.{block_count}
+use Rattle.spec_segments.specs.Counts.{block_count}
+use Rattle.spec_segments.specs.Release.{gone_out, released}
+use Rattle.spec_segments.specs.Segments.{accepted}
 use Rattle.spec_session.specs.Packets.{Packet, packets_of}
-use Rattle.spec_session.specs.Release.{gone_out, released}
-use Rattle.spec_session.specs.Session.{accepted}
 use Rattle.spec_store.specs.StorageFile.{block_text}
 
 -- a sink got the octets of the blocks that a longer list has more

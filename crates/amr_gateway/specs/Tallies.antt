@@ -6,8 +6,8 @@ use Rattle.amr_playout.specs.declared.answers.Kept.{Kept}
 use Rattle.run_report.specs.declared.counts.Counts.{Counts}
 use Rattle.spec_record.specs.RecordCounts.{count, is_no_payload, is_no_rtp, is_null, is_other_type}
 use Rattle.spec_record.specs.Recording.{Recording}
+use Rattle.spec_segments.specs.Segments.{accepted}
 use Rattle.spec_session.specs.Packets.{packets_of}
-use Rattle.spec_session.specs.Session.{accepted}
 
 -- a record more, by what became of it
 abbrev pub counted_as : Counts → Heard → Counts

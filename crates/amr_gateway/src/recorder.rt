@@ -1,7 +1,7 @@
 // The handler of a log's records that records it.
 ghost use Rattle.std.specs.Prelude.{◌≡◌};
 ghost use Rattle.std.proofs.Props.{props};
-ghost use Rattle.session_laws.proofs.Recordings.{early_front, file_front};
+ghost use Rattle.segment_laws.proofs.Recording.{early_front, file_front};
 ghost use Rattle.amr_gateway.specs.Going.{IsGoing, IsNew, IsServedBy, Stands};
 ghost use Rattle.amr_gateway.specs.Jobs.{recording_of};
 ghost use Rattle.amr_gateway.specs.Tallies.{counted_in_all};

@@ -397,7 +397,7 @@ none_goes rules (Some s) cells cs last e wide shows = absurd cc
 
 -- ---- the counts
 
-sum-more : (xs : List ℕ) (x : ℕ) → sum (xs ++ x ∷ []) ≡ sum xs + x
+pub sum-more : (xs : List ℕ) (x : ℕ) → sum (xs ++ x ∷ []) ≡ sum xs + x
 sum-more xs x =
     let one : sum (x ∷ []) ≡ x = omega arith in
     sum_by-append (λ (n : ℕ). n) xs (x ∷ []) ∙ ap (λ n. sum xs + n) one

@@ -13,7 +13,9 @@ pub mod Out
 pub mod Payloads
 pub mod Plans
 pub mod Ranges
+pub mod Renewing
 pub mod Results
+pub mod Segmenting
 pub mod Sliding
 pub mod Spans
 pub mod Taking

@@ -1,4 +1,4 @@
--- What a receiver keeps of a session. This project's own.
+-- What a receiver keeps of a segment. This project's own.
 use Rattle.std.specs.Prelude.{⊤, ◌≡◌, ℕ, max, ◌+◌, ◌-◌, ◌*◌, ◌/◌, ◌%◌, ◌^◌, ◌<◌, ◌≤◌, List, [], ◌∷◌, length, replicate, ℤ, pos, ◌-ℤ◌, Option, Some, None, option_map}
 use Rattle.amr_frame.specs.Frames.{Frame}
 use Rattle.amr_playout.specs.declared.plan.Plan.{Plan}
@@ -16,7 +16,7 @@ abbrev pub Reaches : ℤ → List Copy → Type 0
 Reaches h [] = ⊤
 Reaches h (c ∷ cs) = greatest c.place cs ≡ h
 
--- of a session that has begun: the source, the timestamp and the horizon, and what the window shows
+-- of a segment that has begun: the source, the timestamp and the horizon, and what the window shows
 -- of its copies
 pub record HoldsBegun (rules : Rules) (s : Begun) (cells : List (Option Frame))
     (start : Accepted) (rest : List Accepted) : Type 0 where

@@ -5,15 +5,15 @@ ghost use Rattle.amr_playout.specs.Heard.{heard};
 ghost use Rattle.amr_playout.specs.Plans.{IsPlan, rules_in};
 ghost use Rattle.amr_playout.specs.Steps.{TakesPlan};
 ghost use Rattle.amr_toc.specs.Viewed.{format_of};
+ghost use Rattle.spec_segments.specs.Segments.{horizon};
 ghost use Rattle.spec_session.specs.Packets.{Packet};
-ghost use Rattle.spec_session.specs.Session.{horizon};
 
 use crate::answers::{Kept, Offered, Taken};
 use crate::plan::Plan;
 use crate::ring::absent_ring;
 use crate::session::Begun;
-use crate::step::accept;
-use crate::verdict::{seat, shown};
+use crate::step::{take, taken_into};
+use crate::verdict::{segment_of, shown, spot_of, stray_behind};
 use crate::window::restart;
 use amr_frame::{BlockSink, Cell};
 use amr_io::Failed;
@@ -23,13 +23,15 @@ use rtp_packet::RtpView;
 use std::alloc::{AllocError, Global};
 use std::marker::Model;
 
-/// The bounded receiver of one session: packets in any order go in, and blocks in their order come out. All its
-/// memory is taken when it is made.
+/// The bounded receiver of one session: packets in any order go in, and blocks in their order come out, segment after
+/// segment. All its memory is taken when it is made.
 #[derive(Drop)]
 pub struct Receiver {
     plan: Plan,
     ring: HeapCircularBuffer<Cell>,
     session: Option<Begun>,
+    segment: u64,
+    stray: Option<u16>,
     counts: Kept,
     spent: bool,
 }
@@ -64,6 +66,8 @@ impl Receiver {
             plan,
             ring,
             session: None,
+            segment: 0,
+            stray: None,
             counts: Kept {
                 late: 0,
                 copies: 0,
@@ -81,7 +85,7 @@ impl Receiver {
         self.ring.len()
     }
 
-    /// The last place of all packets so far, the first packet's being 0; `None` before the first.
+    /// The last place of all packets of the segment so far, its first packet's being 0; `None` before the first.
     pub fn horizon(&self) -> Option<i64>
         ensures view { result ≡ horizon_in self.now.session }
         ensures heard { (h : List Packet) → StandsFor self.now h
@@ -102,8 +106,8 @@ impl Receiver {
 
     /// Offers a packet.
     ///
-    /// It is taken, or refused with S1 to S3 and nothing has changed, or the sink failed (S4) and the receiver is spent.
-    /// Once it is taken, all blocks up to the horizon less the window have gone out.
+    /// It is taken, or refused with S1 to S3, or the sink failed (S4) and the receiver is spent. Once it is taken, all blocks
+    /// of the segments before its own have gone out, and those of its own up to the horizon less the window.
     pub fn offer<B: BlockSink>(
         &mut self,
         rtp: &RtpView<'_>,
@@ -119,23 +123,22 @@ impl Receiver {
         ensures keeps { KeepsPlan self.old self.new }
         ensures same { B.same out.old out.new }
     {
-        let place = match seat(&self.plan, &self.session, rtp, payload) {
-            Ok(place) => place,
-            Err(why) => return Err(Offered::Refused(why)),
+        let spot = match spot_of(&self.plan, &self.session, self.stray, rtp, payload) {
+            Ok(spot) => spot,
+            Err(why) => {
+                self.stray = stray_behind(self.stray, &why, rtp.sequence());
+                return Err(Offered::Refused(why));
+            }
         };
-        match accept(
-            &mut self.ring,
-            &self.plan,
-            &self.session,
-            rtp,
-            place,
-            payload,
-            out,
-        ) {
+        let (plan, before) = (&self.plan, &self.session);
+        match take(&mut self.ring, plan, before, spot, rtp, payload, out) {
             Ok(step) => {
+                let taken = taken_into(segment_of(self.segment, spot), &step);
                 self.session = Some(step.session);
-                self.counts = self.counts.with(step.taken);
-                Ok(step.taken)
+                self.segment = taken.segment;
+                self.stray = None;
+                self.counts = self.counts.with(taken);
+                Ok(taken)
             }
             Err(_) => {
                 self.spent = true;

@@ -4,7 +4,7 @@ ghost use Rattle.amr_playout.specs.Copied.{IsPast};
 ghost use Rattle.amr_playout.specs.Heard.{IsReadBy, heard};
 ghost use Rattle.amr_playout.specs.Plans.{IsPlan, rules_in};
 ghost use Rattle.amr_playout.specs.Standing.{IsInside, IsSeat, edge_with};
-ghost use Rattle.amr_playout.specs.Steps.{Accepts, AcceptsPart, IsReady, StaysReady};
+ghost use Rattle.amr_playout.specs.Steps.{Accepts, AcceptsPart, CanTake, HasSeat, Renews, RenewsPart, StaysReady, TakesAt, TakesAtPart, taken_as};
 ghost use Rattle.amr_playout.specs.Window.{at};
 ghost use Rattle.amr_playout.specs.declared.session.Begun.{Begun as Start};
 ghost use Rattle.amr_toc.specs.Viewed.{viewed};
@@ -17,23 +17,90 @@ use crate::merge::merge_all;
 use crate::plan::Plan;
 use crate::session::Begun;
 use crate::shares::share_of;
-use crate::verdict::last_of;
-use crate::window::reach_to;
+use crate::verdict::{FIRST, Spot, last_of};
+use crate::window::{reach_to, restart};
 use amr_frame::{BlockSink, Cell};
 use amr_io::Failed;
 use amr_toc::PayloadView;
 use circular_buffer::HeapCircularBuffer;
 use rtp_packet::RtpView;
 
-/// The session once a packet is accepted, and what the packet gave.
+/// The segment once a packet is accepted, the packet's blocks that weren't in time, its frames whose place and channel had
+/// a copy, and the blocks that were put out.
 #[derive(Clone, Copy)]
 pub struct Step {
     pub session: Begun,
-    pub taken: Taken,
+    pub late: u32,
+    pub copies: u32,
+    pub released: u64,
+}
+
+/// What a packet gave that was taken into a segment with this number.
+pub fn taken_into(segment: u64, step: &Step) -> Taken
+    ensures { result ≡ taken_as segment step.now }
+{
+    Taken {
+        late: step.late,
+        copies: step.copies,
+        released: step.released,
+        segment,
+    }
+}
+
+/// Takes a packet where it is found to belong: at its place, or as the first of a new segment.
+pub fn take<B: BlockSink>(
+    ring: &mut HeapCircularBuffer<Cell>,
+    plan: &Plan,
+    before: &Option<Begun>,
+    spot: Spot,
+    rtp: &RtpView<'_>,
+    payload: &PayloadView<'_>,
+    out: &mut B,
+) -> Result<Step, Failed>
+    requires ready { CanTake B.BlockSink plan.now before.now payload.now ring.old out.old }
+    requires spot { HasSeat before.now spot }
+
+    ensures taken { IfOk result (TakesAt B.BlockSink plan.now before.now
+        (heard rtp.now payload.now) spot ring.old ring.new out.old out.new) }
+    ensures part { OnErr result (TakesAtPart B.BlockSink plan.now before.now
+        (heard rtp.now payload.now) spot ring.old out.old out.new) }
+    ensures stays { StaysReady B.BlockSink plan.now ring.new out.old out.new result }
+{
+    match spot {
+        Spot::Here { place } => accept(ring, plan, before, rtp, place, payload, out),
+        Spot::Anew => begin(ring, plan, before, rtp, payload, out),
+    }
+}
+
+/// Begins a segment with a packet: puts out the rest of the one before it, and then accepts the packet as the first.
+fn begin<B: BlockSink>(
+    ring: &mut HeapCircularBuffer<Cell>,
+    plan: &Plan,
+    before: &Option<Begun>,
+    rtp: &RtpView<'_>,
+    payload: &PayloadView<'_>,
+    out: &mut B,
+) -> Result<Step, Failed>
+    requires ready { CanTake B.BlockSink plan.now before.now payload.now ring.old out.old }
+
+    ensures renewed { IfOk result (Renews B.BlockSink plan.now before.now
+        (heard rtp.now payload.now) ring.old ring.new out.old out.new) }
+    ensures part { OnErr result (RenewsPart B.BlockSink plan.now before.now
+        (heard rtp.now payload.now) ring.old out.old out.new) }
+    ensures stays { StaysReady B.BlockSink plan.now ring.new out.old out.new result }
+{
+    let rest = restart(ring, plan, before, out)?;
+    let step = accept(ring, plan, &None, rtp, FIRST, payload, out)?;
+    Ok(Step {
+        session: step.session,
+        late: step.late,
+        copies: step.copies,
+        released: rest + step.released,
+    })
 }
 
 /// Accepts a packet at its place: brings the window up to its last block, and merges its frames in time.
-pub fn accept<B: BlockSink>(
+fn accept<B: BlockSink>(
     ring: &mut HeapCircularBuffer<Cell>,
     plan: &Plan,
     before: &Option<Begun>,
@@ -42,8 +109,7 @@ pub fn accept<B: BlockSink>(
     payload: &PayloadView<'_>,
     out: &mut B,
 ) -> Result<Step, Failed>
-    requires ready { IsReady B.BlockSink plan.now before.now ring.old out.old }
-    requires read { IsReadBy plan.now payload.now }
+    requires ready { CanTake B.BlockSink plan.now before.now payload.now ring.old out.old }
     requires seat { IsSeat before.now place }
 
     ensures accepted { IfOk result (Accepts B.BlockSink plan.now before.now
@@ -66,11 +132,9 @@ pub fn accept<B: BlockSink>(
             horizon: reached.horizon,
             next: merged.next,
         },
-        taken: Taken {
-            late,
-            copies: merged.copies,
-            released: reached.released,
-        },
+        late,
+        copies: merged.copies,
+        released: reached.released,
     })
 }
 
@@ -87,7 +151,7 @@ fn edge_of(plan: &Plan, before: &Option<Begun>, place: u64) -> u64
     }
 }
 
-/// The source and the timestamp that a session goes by.
+/// The source and the timestamp that a segment goes by.
 fn start_of(before: &Option<Begun>, rtp: &RtpView<'_>) -> (u32, u32)
     ensures fresh { before.now ≡ None
         → (result.0 ≡ (packet rtp.now).ssrc) × (result.1 ≡ (packet rtp.now).timestamp) }

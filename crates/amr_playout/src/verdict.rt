@@ -1,14 +1,15 @@
-// What becomes of a packet: its place in the session, or why it is refused.
+// What becomes of a packet: its place in the segment so far, that it begins a new one, or why it is refused.
 ghost use Rattle.std.specs.Int.{cast_signed, w32};
 ghost use Rattle.std.specs.Prelude.{◌≡◌, ◌+◌, ◌-◌, ◌*◌, ◌^◌, ◌<◌, ◌≤◌, IfErr, IfOk, List, None, Option, Some};
 ghost use Rattle.amr_frame.specs.Frames.{Frame};
 ghost use Rattle.amr_frame.specs.Tables.{ticks};
 ghost use Rattle.amr_playout.specs.Heard.{IsReadBy, heard};
 ghost use Rattle.amr_playout.specs.Plans.{rules_in};
-ghost use Rattle.amr_playout.specs.Standing.{IsBelow, IsFitting, IsInside, IsSeat, last_from};
-ghost use Rattle.amr_playout.specs.Verdicts.{IsDeclined, IsSeated, IsWithinReach};
+ghost use Rattle.amr_playout.specs.Standing.{IsFitting, IsSeat, last_from};
+ghost use Rattle.amr_playout.specs.Verdicts.{CanJudge, IsDeclined, IsFound, IsPassed, IsSeated, IsWithinReach, begins, segment_with, stray_with};
 ghost use Rattle.amr_playout.specs.Window.{at};
 ghost use Rattle.amr_toc.specs.Viewed.{viewed};
+ghost use Rattle.spec_segments.specs.Segments.{follows};
 ghost use Rattle.spec_session.specs.Places.{apart, place_near};
 
 use crate::answers::Refusal;
@@ -19,21 +20,97 @@ use amr_frame::{Codec, step};
 use amr_toc::PayloadView;
 use rtp_packet::RtpView;
 
-/// The place of the first packet.
-const FIRST: u64 = 16_777_216;
+/// The place of the first packet of a segment.
+pub const FIRST: u64 = 16_777_216;
 
 const TURN: u64 = 4_294_967_296;
 
-/// The place of a packet, or why it is refused; the first packet of a session is never refused.
-pub fn seat(
+/// Where a packet is taken.
+#[derive(Clone, Copy)]
+pub enum Spot {
+    /// At a place of the segment so far.
+    Here { place: u64 },
+    /// As the first of a new segment.
+    Anew,
+}
+
+/// Where a packet is taken, or why it is refused. One that the segment so far refuses as off the grid or too far ahead
+/// begins a new one where it follows the stray.
+pub fn spot_of(
+    plan: &Plan,
+    before: &Option<Begun>,
+    stray: Option<u16>,
+    rtp: &RtpView<'_>,
+    payload: &PayloadView<'_>,
+) -> Result<Spot, Refusal>
+    requires ready { CanJudge plan.now before.now payload.now }
+
+    ensures found { IfOk result (IsFound (rules_in plan.now) before.now stray
+        (heard rtp.now payload.now)) }
+    ensures passed { IfErr result (IsPassed (rules_in plan.now) before.now stray
+        (heard rtp.now payload.now)) }
+{
+    match seat(plan, before, rtp, payload) {
+        Ok(place) => Ok(Spot::Here { place }),
+        Err(why) => {
+            if is_begun(stray, &why, rtp.sequence()) {
+                Ok(Spot::Anew)
+            } else {
+                Err(why)
+            }
+        }
+    }
+}
+
+/// Whether a refused packet with this sequence number begins a segment.
+fn is_begun(stray: Option<u16>, why: &Refusal, sequence: u16) -> bool
+    ensures { result ≡ begins stray sequence why.now }
+{
+    match why {
+        Refusal::OtherSource { .. } => false,
+        Refusal::OffGrid { .. } | Refusal::FarAhead { .. } => is_next(stray, sequence),
+    }
+}
+
+/// Whether a sequence number is the one behind the stray's.
+fn is_next(stray: Option<u16>, sequence: u16) -> bool
+    ensures { result ≡ follows stray sequence }
+{
+    match stray {
+        None => false,
+        Some(last) => sequence == last.wrapping_add(1),
+    }
+}
+
+/// The stray once a packet with this sequence number was refused: that packet, if it is of the source.
+pub fn stray_behind(stray: Option<u16>, why: &Refusal, sequence: u16) -> Option<u16>
+    ensures { result ≡ stray_with stray sequence why.now }
+{
+    match why {
+        Refusal::OtherSource { .. } => stray,
+        Refusal::OffGrid { .. } | Refusal::FarAhead { .. } => Some(sequence),
+    }
+}
+
+/// The number of the segment that a packet is taken into.
+pub fn segment_of(segment: u64, spot: Spot) -> u64
+    requires { segment < 2 ^ 63 }
+    ensures { result ≡ segment_with segment spot }
+{
+    match spot {
+        Spot::Here { .. } => segment,
+        Spot::Anew => segment + 1,
+    }
+}
+
+/// The place of a packet in the segment so far, or why it is refused; the first packet of a session is never refused.
+fn seat(
     plan: &Plan,
     before: &Option<Begun>,
     rtp: &RtpView<'_>,
     payload: &PayloadView<'_>,
 ) -> Result<u64, Refusal>
-    requires read { IsReadBy plan.now payload.now }
-    requires inside { IsInside (rules_in plan.now) before.now }
-    requires below { IsBelow before.now }
+    requires ready { CanJudge plan.now before.now payload.now }
 
     ensures seated { IfOk result (IsSeated (rules_in plan.now) before.now
         (heard rtp.now payload.now)) }
@@ -56,9 +133,7 @@ fn judge(
     rtp: &RtpView<'_>,
     payload: &PayloadView<'_>,
 ) -> Result<u64, Refusal>
-    requires read { IsReadBy plan.now payload.now }
-    requires inside { IsInside (rules_in plan.now) (Some session.now) }
-    requires below { session.now.horizon < 2 ^ 62 + 2 ^ 24 }
+    requires ready { CanJudge plan.now (Some session.now) payload.now }
 
     ensures seated { IfOk result (IsSeated (rules_in plan.now) (Some session.now)
         (heard rtp.now payload.now)) }

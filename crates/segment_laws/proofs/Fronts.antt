@@ -10,7 +10,7 @@ use Rattle.segment_laws.proofs.Alone.{AllAlone, all_alone}
 use Rattle.segment_laws.proofs.Growing.{GoesOn, Last, Closed, goes_on_from}
 use Rattle.segment_laws.specs.Kept.{IsFront}
 use Rattle.segment_laws.specs.One.{IsAlone, packets}
-use Rattle.session_laws.proofs.Recordings.{gone_by, released_by}
+use Rattle.session_laws.proofs.Gone.{gone_by, released_by}
 use Rattle.spec_segments.specs.Release.{gone_in, gone_out, released, released_closed, released_in, released_segment}
 use Rattle.spec_segments.specs.Release.{released_up_to}
 use Rattle.spec_segments.specs.Segments.{Segments, horizon, segments}

@@ -2,17 +2,16 @@
 use Rattle.std.proofs.Common.{◌≡◌, ℕ, List, ◌++◌, sym, ap, ◌∙◌, append_assoc}
 use Rattle.std.specs.Prelude.{flat_map}
 use Rattle.std.proofs.lemmas.List.Concat.{flat_map-append}
+use Rattle.std.proofs.lemmas.List.Elements.{filter_map-append}
 use Rattle.amr_frame.specs.Frames.{Frame}
 use Rattle.segment_laws.proofs.Fronts.{gone_in_release, gone_stays}
 use Rattle.segment_laws.proofs.Single.{same_gone, same_released}
 use Rattle.segment_laws.specs.Kept.{IsFront}
 use Rattle.segment_laws.specs.One.{IsOneSegment}
-use Rattle.segment_laws.specs.Recorded.{early_of, file_of, heard}
-use Rattle.session_laws.proofs.Recordings.{more_packets}
-use Rattle.spec_record.specs.Recording as recording
-use Rattle.spec_record.specs.Recording.{Recording}
+use Rattle.spec_record.specs.Recording.{Recording, early_of, file_of, heard}
 use Rattle.spec_segments.specs.Release.{gone_out, released}
-use Rattle.spec_session.specs.Packets.{Packet}
+use Rattle.spec_session.specs.Packets.{Packet, packet_of}
+use Rattle.spec_session.specs.Release as session
 use Rattle.spec_session.specs.Session.{Rules}
 use Rattle.spec_store.specs.StorageFile.{block_text, header, storage_file}
 
@@ -25,6 +24,9 @@ stored_front r blocks all f =
           ∙ ap (λ t. head ++ t) (flat_map-append block_text blocks f.0)
           ∙ sym (append_assoc head (flat_map block_text blocks) (flat_map block_text f.0)),
     )
+
+pub more_packets : (r : Recording) (records more : List (List ℕ)) → heard r (records ++ more) ≡ heard r records ++ heard r more
+more_packets r records more = filter_map-append (packet_of r.profile r.asked) records more
 
 -- what the first records have let out is a front of what more of them mean, by what it is of blocks
 front_by : (r : Recording) (out : Rules → List Packet → List (List Frame)) (records more : List (List ℕ)) →
@@ -47,9 +49,9 @@ file_front r records more =
 
 -- of one segment both are as without segments
 pub same_file : (r : Recording) (records : List (List ℕ)) → IsOneSegment r.rules (heard r records) →
-    file_of r records ≡ recording.file_of r records
+    file_of r records ≡ storage_file r.rules.codec r.rules.channels (session.released r.rules (heard r records))
 same_file r records e = ap (storage_file r.rules.codec r.rules.channels) (same_released r.rules (heard r records) e)
 
 pub same_early : (r : Recording) (records : List (List ℕ)) → IsOneSegment r.rules (heard r records) →
-    early_of r records ≡ recording.early_of r records
+    early_of r records ≡ storage_file r.rules.codec r.rules.channels (session.gone_out r.rules (heard r records))
 same_early r records e = ap (storage_file r.rules.codec r.rules.channels) (same_gone r.rules (heard r records) e)

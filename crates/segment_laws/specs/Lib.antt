@@ -2,4 +2,3 @@ pub mod Judged
 pub mod Kept
 pub mod One
 pub mod Placed
-pub mod Recorded

@@ -16,6 +16,6 @@ pub use one::{
 };
 pub use placed::{a_packet_has_one_place_in_its_segment, a_segment_is_a_session};
 pub use puts::what_one_more_packet_puts_out;
-pub use recorded::{one_segment_is_recorded_as_a_session, what_is_written_of_segments_stays};
+pub use recorded::{one_segment_is_recorded_as_a_session, what_is_written_stays};
 pub use source::a_session_has_one_source;
 pub use stays::{a_longer_session_keeps_the_segments, what_is_released_of_segments_stays};

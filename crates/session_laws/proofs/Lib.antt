@@ -1,4 +1,4 @@
+pub mod Gone
 pub mod Places
 pub mod Prefix
-pub mod Recordings
 pub mod Sessions

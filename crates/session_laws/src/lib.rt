@@ -2,9 +2,7 @@
 #![tactic(auto)]
 
 mod place;
-mod recording;
 mod release;
 
 pub use place::a_packet_has_one_place;
-pub use recording::what_is_written_stays;
 pub use release::{a_longer_session_keeps_the_copies, what_is_released_stays};

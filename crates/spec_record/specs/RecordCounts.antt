@@ -1,6 +1,6 @@
 -- The counts of a recording: ours. A record counts under the first of these that holds: it has no octet, it isn't an
 -- RTP packet, its payload type isn't the asked one, its payload isn't one of the format, it isn't accepted.
-use Rattle.std.specs.Prelude.{ℕ, ◌-◌, Bool, true, false, not, ◌&&◌, List, [], ◌∷◌, length, filter, Option, Result, Ok, Err, is_some}
+use Rattle.std.specs.Prelude.{ℕ, Bool, true, false, not, ◌&&◌, List, [], ◌∷◌, length, filter, Option, Result, Ok, Err, is_some}
 use Rattle.amr_frame.specs.declared.profile.Profile.{Profile}
 use Rattle.run_report.specs.declared.counts.Counts.{Counts}
 use Rattle.spec_packet.specs.Rtp.{RtpPacket}
@@ -8,9 +8,8 @@ use Rattle.spec_packet.specs.RtpReading.{rtp_of}
 use Rattle.spec_packet.specs.declared.refusal.RtpRefusal.{RtpRefusal}
 use Rattle.spec_payload.specs.Reading.{payload_refusal}
 use Rattle.spec_record.specs.Recording.{Recording}
-use Rattle.spec_session.specs.Counts.{block_count, copy_count, late_count}
+use Rattle.spec_segments.specs.Counts.{block_count, copy_count, late_count, refused_count}
 use Rattle.spec_session.specs.Packets.{is_asked, packets_of}
-use Rattle.spec_session.specs.Session.{accepted}
 
 -- a record of no octets
 abbrev pub is_null : List ℕ → Bool
@@ -52,7 +51,7 @@ counts_of r records = let h = packets_of r.profile r.asked records in record {
   rtp = count is_no_rtp records;
   other_type = count (is_other_type r.asked) records;
   payload = count (is_no_payload r.profile r.asked) records;
-  place = length h - length (accepted r.rules h);
+  place = refused_count r.rules h;
   late = late_count r.rules h;
   copies = copy_count r.rules h;
   blocks = block_count r.rules h;

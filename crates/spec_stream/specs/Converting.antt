@@ -5,21 +5,20 @@ use Rattle.amr_frame.specs.Frames.{Frame}
 use Rattle.run_report.specs.declared.counts.Counts.{Counts}
 use Rattle.run_report.specs.declared.report.CountLines.TheVariants as lines
 use Rattle.spec_record.specs.RecordCounts as recording
-use Rattle.spec_record.specs.Recording.{Recording}
+use Rattle.spec_record.specs.Recording.{Recording, heard}
 use Rattle.spec_run.specs.LogRuns.{RecordsJob, log_meaning}
 use Rattle.spec_run.specs.Meanings.{Meaning}
 use Rattle.spec_sending.specs.declared.plan.SendPlan.{SendPlan}
 use Rattle.spec_sending.specs.Sending.{sent}
-use Rattle.spec_session.specs.Packets.{packets_of}
-use Rattle.spec_session.specs.Release.{gone_out, released}
+use Rattle.spec_segments.specs.Release.{gone_out, released}
 use Rattle.spec_stream.specs.Streaming.{begun_log, sent_log}
 
 -- the blocks that are released of records, and those released while more records may come
 abbrev pub released_in : Recording → List (List ℕ) → List (List Frame)
-released_in r records = released r.rules (packets_of r.profile r.asked records)
+released_in r records = released r.rules (heard r records)
 
 abbrev pub gone_out_in : Recording → List (List ℕ) → List (List Frame)
-gone_out_in r records = gone_out r.rules (packets_of r.profile r.asked records)
+gone_out_in r records = gone_out r.rules (heard r records)
 
 -- what is put out for records, and what of it is out while more may come
 abbrev pub log_from : Recording → SendPlan → List (List ℕ) → List ℕ

@@ -5,8 +5,8 @@ use Rattle.amr_gateway.proofs.Texts.{gained, gained_part}
 use Rattle.amr_gateway.specs.Hearing.{Gained, GainedPart}
 use Rattle.amr_playout.specs.Plans.{rules_in}
 use Rattle.amr_playout.specs.declared.plan.Plan.{Plan}
-use Rattle.spec_session.specs.Counts.{block_count}
-use Rattle.spec_session.specs.Release.{gone_out, released}
+use Rattle.spec_segments.specs.Counts.{block_count}
+use Rattle.spec_segments.specs.Release.{gone_out, released}
 use Rattle.amr_gateway.proofs.hear.end_session.Goals as goal
 
 pub resume-writer-requires : goal.resume-writer-requires

@@ -9,8 +9,8 @@ use Rattle.amr_playout.specs.Heard.{heard}
 use Rattle.amr_io.specs.Fault.{Rose}
 use Rattle.amr_playout.specs.Plans.{IsPlan, rules_in}
 use Rattle.amr_playout.specs.declared.plan.Plan.{Plan}
-use Rattle.spec_session.specs.Release.{gone_out}
-use Rattle.spec_session.specs.Session.{accepted}
+use Rattle.spec_segments.specs.Release.{gone_out}
+use Rattle.spec_segments.specs.Segments.{accepted}
 use Rattle.amr_gateway.proofs.hear.offer.Goals as goal
 
 pub resume-writer-requires : goal.resume-writer-requires
@@ -43,12 +43,12 @@ returns-in-Ok-clause-offered g c =
           (gained g.O.Sink.got g.O.Sink.beside g.O.Sink.same g.met.O.Sink.reflexive g.met.O.Sink.transitive c.resume-writer.result c.offer.new.out _ _ (new.out h stands));
       accepts = λ h stands.
           subst (λ (p : Plan). length (accepted (rules_in p) (h ++ x ∷ [])) ≡ length (accepted (rules_in p) h) + 1) c.requires.ready.served.plan
-          (accepts (rules_in v.plan) h x (new.verdict h stands).0 (new.verdict h stands).1);
+          (accepts (rules_in v.plan) h x (new.verdict h stands));
       on = record {
         unspent = new.unspent;
         bounded = λ n b.
             bounded_more n v c.offer.new.self c.in-Ok.field-0.late c.in-Ok.field-0.copies c.in-Ok.field-0.released
-            (subst IsPlan (sym c.requires.ready.served.plan) c.requires.ready.served.served.plan) new.grows new.few new.counts b;
+            (subst IsPlan (sym c.requires.ready.served.plan) c.requires.ready.served.served.plan) new.moves new.few new.counts b;
       };
     }
 

@@ -16,8 +16,7 @@ use Rattle.amr_playout.proofs.step.accept.Goals as goal
 pub reach_to-requires-clause-last : goal.reach_to-requires-clause-last
 reach_to-requires-clause-last g c = (
   (λ e. let first = c.requires.seat.first e in let after = c.last_of-last.ensures.after in omega (arith, first, after)),
-  last_under c.args.plan.now c.args.place c.last_of-last.result (facts c.args.plan.now c.requires.ready.ringed.planned)
-      c.requires.seat.below c.last_of-last.ensures.fits,
+  last_under c.args.plan.now c.args.place c.last_of-last.result (facts c.args.plan.now c.requires.ready.ready.ringed.planned) c.requires.seat.below c.last_of-last.ensures.fits,
 )
 
 pub returns-in_err-reached-clause-part : goal.returns-in_err-reached-clause-part
@@ -29,9 +28,8 @@ returns-in_err-reached-clause-part g c =
     let last : ℕ = c.last_of-last.result in
     let l = c.last_of-last.ensures in
     let stands : IsPlaced rules before (placed before x c.args.place) c.args.place last (horizon_with before last) =
-    is_placed c.args.plan.now before x c.args.place last (horizon_with before last)
-    (facts c.args.plan.now c.requires.ready.ringed.planned)
-    l.fitting.some l.fitting.whole c.requires.ready.inside c.requires.seat.above l.last l.fits l.after refl in
+    is_placed c.args.plan.now before x c.args.place last (horizon_with before last) (facts c.args.plan.now c.requires.ready.ready.ringed.planned)
+    l.fitting.some l.fitting.whole c.requires.ready.ready.inside c.requires.seat.above l.last l.fits l.after refl in
     on_err c.from_residual.result _ (λ acc holds.
     let got = c.in_err-reached.ensures.part (copies_of rules acc) (before_shows rules before old acc holds) in record {
       blocks = got.blocks;
@@ -42,16 +40,13 @@ returns-in_err-reached-clause-part g c =
 
 pub overflow_add-base : goal.overflow_add-base
 overflow_add-base g c =
-    let s =
-    reached_small c.args.plan.now c.args.before.now c.args.place c.last_of-last.result
-    c.in_ok-reached.reached.horizon
-    (facts c.args.plan.now c.requires.ready.ringed.planned) c.requires.ready.inside c.requires.seat.below
-    c.last_of-last.ensures.fits c.in_ok-reached.ensures.slid.horizon in
+    let s = reached_small c.args.plan.now c.args.before.now c.args.place c.last_of-last.result c.in_ok-reached.reached.horizon
+    (facts c.args.plan.now c.requires.ready.ready.ringed.planned) c.requires.ready.ready.inside c.requires.seat.below c.last_of-last.ensures.fits c.in_ok-reached.ensures.slid.horizon in
     omega (arith, s)
 
 pub overflow_sub-base : goal.overflow_sub-base
 overflow_sub-base g c =
-    let narrow = (facts c.args.plan.now c.requires.ready.ringed.planned).narrow in
+    let narrow = (facts c.args.plan.now c.requires.ready.ready.ringed.planned).narrow in
     let begun = c.in_ok-reached.ensures.slid.inside.0 in
     omega (arith, narrow, begun, c.from.ensures)
 
@@ -63,7 +58,7 @@ merge_all-merged-requires-clause-low g c =
 
 pub merge_all-merged-requires-clause-high : goal.merge_all-merged-requires-clause-high
 merge_all-merged-requires-clause-high g c =
-    let narrow = (facts c.args.plan.now c.requires.ready.ringed.planned).narrow in
+    let narrow = (facts c.args.plan.now c.requires.ready.ready.ringed.planned).narrow in
     let begun = c.in_ok-reached.ensures.slid.inside.0 in
     let up =
     step_up c.args.before.now c.last_of-last.result c.in_ok-reached.reached.horizon
@@ -74,11 +69,8 @@ merge_all-merged-requires-clause-high g c =
 
 pub merge_all-merged-requires-clause-small : goal.merge_all-merged-requires-clause-small
 merge_all-merged-requires-clause-small g c =
-    let s =
-    reached_small c.args.plan.now c.args.before.now c.args.place c.last_of-last.result
-    c.in_ok-reached.reached.horizon
-    (facts c.args.plan.now c.requires.ready.ringed.planned) c.requires.ready.inside c.requires.seat.below
-    c.last_of-last.ensures.fits c.in_ok-reached.ensures.slid.horizon in
+    let s = reached_small c.args.plan.now c.args.before.now c.args.place c.last_of-last.result c.in_ok-reached.reached.horizon
+    (facts c.args.plan.now c.requires.ready.ready.ringed.planned) c.requires.ready.ready.inside c.requires.seat.below c.last_of-last.ensures.fits c.in_ok-reached.ensures.slid.horizon in
     omega (arith, s)
 
 pub returns-clause-accepted : goal.returns-clause-accepted
@@ -96,12 +88,10 @@ returns-clause-accepted g c =
     let slid = c.in_ok-reached.ensures.slid in
     let next = c.merge_all-merged.result.next in
     let step : IsPlaced rules before a c.args.place last r.horizon =
-    is_placed c.args.plan.now before x c.args.place last r.horizon
-    (facts c.args.plan.now c.requires.ready.ringed.planned)
-    l.fitting.some l.fitting.whole c.requires.ready.inside c.requires.seat.above l.last l.fits l.after slid.horizon in
-    let narrow = (facts c.args.plan.now c.requires.ready.ringed.planned).narrow in
-    let base : at (r.horizon + 1 - c.from.result) ≡ base_of rules (at r.horizon) =
-    base_at rules r.horizon c.from.result c.from.ensures narrow slid.inside.0 in
+    is_placed c.args.plan.now before x c.args.place last r.horizon (facts c.args.plan.now c.requires.ready.ready.ringed.planned)
+    l.fitting.some l.fitting.whole c.requires.ready.ready.inside c.requires.seat.above l.last l.fits l.after slid.horizon in
+    let narrow = (facts c.args.plan.now c.requires.ready.ready.ringed.planned).narrow in
+    let base : at (r.horizon + 1 - c.from.result) ≡ base_of rules (at r.horizon) = base_at rules r.horizon c.from.result c.from.ensures narrow slid.inside.0 in
     let past : IsPast rules x.value c.args.place c.edge_of-edge.result a = record {
       value = refl;
       here = refl;
@@ -144,10 +134,8 @@ returns-clause-accepted g c =
       late = c.late_blocks-late.ensures.late a past;
       inside = (
         (slid.inside.0, inside.0, inside.1),
-        reached_small c.args.plan.now c.args.before.now c.args.place c.last_of-last.result
-            c.in_ok-reached.reached.horizon
-            (facts c.args.plan.now c.requires.ready.ringed.planned) c.requires.ready.inside c.requires.seat.below
-            c.last_of-last.ensures.fits c.in_ok-reached.ensures.slid.horizon,
+        reached_small c.args.plan.now c.args.before.now c.args.place c.last_of-last.result c.in_ok-reached.reached.horizon
+            (facts c.args.plan.now c.requires.ready.ready.ringed.planned) c.requires.ready.ready.inside c.requires.seat.below c.last_of-last.ensures.fits c.in_ok-reached.ensures.slid.horizon,
       );
       horizon = slid.horizon ∙ ap (horizon_with before) l.last;
       fits = subst (λ k. k < c.args.place + c.args.plan.now.window) l.last l.fits;

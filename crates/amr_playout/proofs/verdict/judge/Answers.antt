@@ -59,5 +59,5 @@ returns-clause-seated c = λ cells acc holds.
 
 pub returns-clause-near : goal.returns-clause-near
 returns-clause-near c =
-    let near = c.in-Ok.ensures.near in let low = near.0 in let high = near.1 in let begun = c.requires.inside.0.0 in
+    let near = c.in-Ok.ensures.near in let low = near.0 in let high = near.1 in let begun = c.requires.ready.inside.0.0 in
     (omega (arith, low, begun), omega (arith, high))

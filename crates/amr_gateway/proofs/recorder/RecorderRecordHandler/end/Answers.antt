@@ -5,7 +5,7 @@ use Rattle.amr_gateway.proofs.Texts.{puts_by, puts_part_by}
 use Rattle.amr_gateway.specs.Hearing.{among}
 use Rattle.amr_playout.specs.Plans.{rules_in}
 use Rattle.amr_playout.specs.declared.plan.Plan.{Plan}
-use Rattle.spec_session.specs.Counts.{copy_count, late_count}
+use Rattle.spec_segments.specs.Counts.{copy_count, late_count}
 use Rattle.amr_gateway.proofs.recorder.RecorderRecordHandler.end.Goals as goal
 
 pub end_session-requires-clause-unspent : goal.end_session-requires-clause-unspent

@@ -1,5 +1,5 @@
 use Rattle.segment_laws.proofs.Recording.{early_front, file_front}
-use Rattle.segment_laws.proofs.recorded.what_is_written_of_segments_stays.Goals as goal
+use Rattle.segment_laws.proofs.recorded.what_is_written_stays.Goals as goal
 
 pub returns : goal.returns
 returns c = record { early = early_front; whole = file_front }
