@@ -2,7 +2,7 @@
 use Rattle.std.proofs.Common.{◌≡◌, ℕ, ◌+◌, ◌^◌, ◌<◌, ◌≤◌, false, ap, arith, inl, inr, Option, Some, None}
 use Rattle.amr_gateway.specs.Going.{IsBounded, IsWithin}
 use Rattle.amr_playout.specs.Plans.{IsPlan}
-use Rattle.amr_playout.specs.Receiver.{Grows, Moves, Restarts, TakesPackets, View}
+use Rattle.amr_playout.specs.Receiver.{Grows, Moves, StartsOver, TakesPackets, View}
 use Rattle.amr_playout.specs.Standing.{IsBelow}
 use Rattle.amr_playout.specs.declared.answers.Kept.{Kept}
 use Rattle.amr_playout.specs.declared.plan.Plan.{Plan}
@@ -45,7 +45,7 @@ grown plan n (Some s) (Some t) released f g w =
     (omega (arith, far, most, w), omega (arith, far, rise, most))
 
 -- one that begins a segment takes it no further than the window, and puts out no more than that
-restarted : (plan : Plan) (n : ℕ) (t : Option Begun) (released : ℕ) → Facts plan → Restarts plan t released
+restarted : (plan : Plan) (n : ℕ) (t : Option Begun) (released : ℕ) → Facts plan → StartsOver plan t released
     → IsWithin (n + 1) t × (released ≤ 45000)
 restarted plan n None released f g = absurd g
 restarted plan n (Some t) released f g =
@@ -112,7 +112,8 @@ bounded_same n v b =
       within = within_same n v.session b.within;
     }
 
-pub bounded_stray : (n : ℕ) (v : View) (stray : Option ℕ) → IsBounded n v → IsBounded (n + 1) (record v { stray = stray })
+pub bounded_stray : (n : ℕ) (v : View) (stray : Option ℕ) → IsBounded n v → IsBounded (n + 1)
+    (record v { stray = stray })
 bounded_stray n v stray b =
     let s = bounded_same n v b in
     record { late = s.late; copies = s.copies; blocks = s.blocks; segments = s.segments; within = s.within }

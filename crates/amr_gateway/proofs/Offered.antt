@@ -1,5 +1,6 @@
 -- What an offer does to the accepted packets.
-use Rattle.std.proofs.Common.{◌≡◌, ℕ, ◌+◌, List, [], ◌∷◌, ◌++◌, length, sym, ap, ◌∙◌, arith, append_assoc, append-nil, length-append}
+use Rattle.std.proofs.Common.{◌≡◌, ℕ, ◌+◌, List, [], ◌∷◌, ◌++◌, length, sym, ap, ◌∙◌, arith, append_assoc, append-nil}
+use Rattle.std.proofs.Common.{length-append}
 use Rattle.std.specs.Prelude.{flat_map}
 use Rattle.std.proofs.lemmas.List.Concat.{flat_map-append}
 use Rattle.std.proofs.lemmas.List.Sums.{fold-append}
@@ -7,7 +8,8 @@ use Rattle.amr_playout.specs.Offers.{IsTaken}
 use Rattle.amr_playout.specs.Refusals.{IsRefusedAs}
 use Rattle.amr_playout.specs.declared.answers.Refusal.{Refusal}
 use Rattle.amr_playout.specs.declared.answers.Refusal.TheVariants as refusal
-use Rattle.spec_segments.specs.Segments.{SegmentVerdict, Segments, Begins, Within, accepted, accepted_of, at_start, passed, segments}
+use Rattle.spec_segments.specs.Segments.{SegmentVerdict, Segments, Begins, Within, accepted, accepted_of, at_start}
+use Rattle.spec_segments.specs.Segments.{passed, segments}
 use Rattle.spec_segments.specs.Segments.{verdict, with_packet}
 use Rattle.spec_session.specs.Packets.{Packet}
 use Rattle.spec_session.specs.Session.{Accept, Accepted, FarAhead, OffGrid, OtherSource, Rules}
@@ -17,7 +19,8 @@ abbrev taken_in : Segments → ℕ
 taken_in s = length (accepted_of s)
 
 more : (rules : Rules) (h : List Packet) (x : Packet)
-    → length (accepted rules (h ++ x ∷ [])) ≡ taken_in (passed (segments rules h) x (verdict rules (segments rules h) x))
+    → length (accepted rules (h ++ x ∷ [])) ≡ taken_in
+    (passed (segments rules h) x (verdict rules (segments rules h) x))
 more rules h x = ap taken_in (fold-append (with_packet rules) at_start h (x ∷ []))
 
 taken_more : (s : Segments) (x : Packet) (w : SegmentVerdict) → IsTaken w → taken_in (passed s x w) ≡ taken_in s + 1

@@ -8,8 +8,10 @@ use Rattle.amr_frame.specs.Frames.{Frame}
 use Rattle.amr_frame.specs.Steps.{BlockStep}
 use Rattle.amr_io.specs.declared.source.Failed.{Failed}
 use Rattle.amr_playout.proofs.Plans.{facts}
-use Rattle.amr_playout.proofs.Segmenting.{accepted_begun, accepted_one, again_begun, again_in, again_one, begins_as, gone_begun}
-use Rattle.amr_playout.proofs.Segmenting.{joined, joins_as, late_by, opened, passed_as, passed_over, with_one, with_segment}
+use Rattle.amr_playout.proofs.Segmenting.{accepted_begun, accepted_one, again_begun, again_in, again_one, begins_as}
+use Rattle.amr_playout.proofs.Segmenting.{gone_begun}
+use Rattle.amr_playout.proofs.Segmenting.{joined, joins_as, late_by, opened, passed_as, passed_over, with_one}
+use Rattle.amr_playout.proofs.Segmenting.{with_segment}
 use Rattle.amr_playout.proofs.Segmenting.{with_stray}
 use Rattle.amr_playout.specs.declared.answers.Kept.{Kept}
 use Rattle.amr_playout.specs.declared.answers.Refusal.{Refusal}
@@ -27,7 +29,8 @@ use Rattle.amr_playout.specs.Plans.{IsPlan, rules_in}
 use Rattle.amr_playout.specs.Receiver.{Grows, StandsFor, View, view_of}
 use Rattle.amr_playout.specs.Standing.{Holds, IsInside, IsSeat, horizon_with, last_from, placed}
 use Rattle.amr_playout.specs.Steps.{Accepts, HasSeat, Renews, TakesAt, TakesAtPart, taken_as}
-use Rattle.amr_playout.specs.Verdicts.{IsFound, IsHere, IsPassed, IsAnew, IsWithinReach, begins, segment_with, stray_with}
+use Rattle.amr_playout.specs.Verdicts.{IsFound, IsHere, IsPassed, IsAnew, IsWithinReach, begins, segment_with}
+use Rattle.amr_playout.specs.Verdicts.{stray_with}
 use Rattle.amr_playout.specs.Window.{held_of}
 use Rattle.circular_buffer.specs.Buffer.{Buffer}
 use Rattle.spec_payload.specs.Values.{Value}
@@ -49,7 +52,8 @@ grows_by plan (Some t) s v place released seat reach is fits rise none =
     let near = reach t refl in (rise t refl, omega (arith, is, near))
 
 -- no more blocks go out than the horizon counts
-few_gone : (before : Option Begun) (horizon released : ℕ) → ((t : Begun) → before ≡ Some t → t.horizon + released ≤ horizon)
+few_gone : (before : Option Begun) (horizon released : ℕ) →
+    ((t : Begun) → before ≡ Some t → t.horizon + released ≤ horizon)
     → (before ≡ None → released ≡ 0) → released ≤ horizon
 few_gone None horizon released rise none = let e = none refl in omega (arith, e)
 few_gone (Some t) horizon released rise none = let e = rise t refl in omega (arith, e)
@@ -60,9 +64,11 @@ pub has_seat : (rules : Rules) (before : Option Begun) (stray : Option ℕ) (x :
 has_seat rules before stray x (Here place) f = f.seat
 has_seat rules before stray x Anew f = tt
 
-module _ {S : Type 0} (b : blocks.Ghosts S) (plan : Plan) (before : Option Begun) (x : Packet) (ring ring' : Buffer Cell)
+module _ {S : Type 0} (b : blocks.Ghosts S) (plan : Plan) (before : Option Begun) (x : Packet)
+    (ring ring' : Buffer Cell)
     (old new : S) (s : Step) where
-  pub inside_at : (spot : Spot) → TakesAt b plan before x spot ring ring' old new s → IsInside (rules_in plan) (Some s.session)
+  pub inside_at : (spot : Spot) → TakesAt b plan before x spot ring ring' old new s → IsInside (rules_in plan)
+      (Some s.session)
   inside_at (Here place) a = a.inside
   inside_at Anew a = a.inside
 
@@ -161,13 +167,15 @@ module _ {S : Type 0} (b : blocks.Ghosts S) (r : Inside) (x : Packet) (old new :
   takes_at (Here place) ring' s counts f a step unspent counts_is =
       let p : Accepted = placed r.session x place in
       record {
-        verdict = λ h stands. subst IsTaken (sym (joins_as rules h x p (f.seated cells (segments rules h).last stands.kept))) tt;
+        verdict = λ h stands. subst IsTaken
+            (sym (joins_as rules h x p (f.seated cells (segments rules h).last stands.kept))) tt;
         stands = λ h stands.
             (let t : Segments = segments rules h in
             let e : behind h ≡ with_one t p = joins place f h stands in
             record {
               unspent = unspent;
-              kept = subst (λ (u : Segments). Holds rules (Some s.session) (held_of ring'.items) u.last) (sym e) (a.holds t.last stands.kept);
+              kept = subst (λ (u : Segments). Holds rules (Some s.session) (held_of ring'.items) u.last) (sym e)
+                  (a.holds t.last stands.kept);
               number = stands.number ∙ sym (ap (λ (u : Segments). length u.closed) e);
               stray = sym (ap (λ (u : Segments). u.stray) e);
               counted = record {
@@ -196,10 +204,12 @@ module _ {S : Type 0} (b : blocks.Ghosts S) (r : Inside) (x : Packet) (old new :
         out = λ h stands.
             (let t : Segments = segments rules h in
             subst (Gains b.whole old new (gone_out rules h)) (sym (ap (gone_in rules) (joins place f h stands)))
-            (gains_under b.whole old new (released_closed rules t) (gone_of rules t.last) (gone_of rules (t.last ++ p ∷ []))
+            (gains_under b.whole old new (released_closed rules t) (gone_of rules t.last)
+            (gone_of rules (t.last ++ p ∷ []))
             (a.out t.last stands.kept)));
         counts = counts_is;
         segment = refl;
+        stray = refl;
         few = a.few;
         moves = inl (refl, grows_by r.plan r.session s.session x.value place s.released f.seat f.reach a.horizon a.fits a.rise a.none);
         unspent = unspent;
@@ -215,7 +225,8 @@ module _ {S : Type 0} (b : blocks.Ghosts S) (r : Inside) (x : Packet) (old new :
             let e : behind h ≡ with_segment t x = opens f h stands in
             record {
               unspent = unspent;
-              kept = subst (λ (u : Segments). Holds rules (Some s.session) (held_of ring'.items) u.last) (sym e) (a.holds t.last stands.kept);
+              kept = subst (λ (u : Segments). Holds rules (Some s.session) (held_of ring'.items) u.last) (sym e)
+                  (a.holds t.last stands.kept);
               number = ap (λ n. n + 1) stands.number
                   ∙ sym (ap (λ (u : Segments). length u.closed) e ∙ length-append t.closed (t.last ∷ []));
               stray = sym (ap (λ (u : Segments). u.stray) e);
@@ -247,11 +258,13 @@ module _ {S : Type 0} (b : blocks.Ghosts S) (r : Inside) (x : Packet) (old new :
             });
         out = λ h stands.
             (let t : Segments = segments rules h in
-            subst (Gains b.whole old new (gone_out rules h)) (sym (ap (gone_in rules) (opens f h stands) ∙ gone_begun rules t x))
+            subst (Gains b.whole old new (gone_out rules h))
+            (sym (ap (gone_in rules) (opens f h stands) ∙ gone_begun rules t x))
             (gains_under b.whole old new (released_closed rules t) (gone_of rules t.last)
             (released_segment rules t.last ++ gone_of rules (begun x ∷ [])) (a.out t.last stands.kept)));
         counts = counts_is;
         segment = refl;
+        stray = refl;
         few = a.few;
         moves = inr (refl, (a.horizon, a.rest));
         unspent = unspent;
@@ -280,10 +293,12 @@ module _ {S : Type 0} (b : blocks.Ghosts S) (r : Inside) (x : Packet) (old new :
               unspent = stands.unspent;
               kept = subst (λ (u : Segments). Holds rules r.session cells u.last) (sym e) stands.kept;
               number = stands.number ∙ sym (ap (λ (u : Segments). length u.closed) e);
-              stray = stray_is ∙ ap (λ o. stray_with o x.sequence why) stands.stray ∙ sym (ap (λ (u : Segments). u.stray) e);
+              stray = stray_is ∙ ap (λ o. stray_with o x.sequence why) stands.stray
+                  ∙ sym (ap (λ (u : Segments). u.stray) e);
               counted = record {
                 late = stands.counted.late ∙ sym (ap (λ (u : Segments). sum (map (late_in rules) (accepted_of u))) e);
-                copies = stands.counted.copies ∙ sym (ap (λ (u : Segments). again_in rules (u.closed ++ u.last ∷ [])) e);
+                copies = stands.counted.copies
+                    ∙ sym (ap (λ (u : Segments). again_in rules (u.closed ++ u.last ∷ [])) e);
                 blocks = stands.counted.blocks ∙ sym (ap (λ (u : Segments). length (gone_in rules u)) e);
               };
             });
@@ -295,7 +310,8 @@ module _ {S : Type 0} (b : blocks.Ghosts S) (r : Inside) (x : Packet) (old new :
   taken_at : (spot : Spot) → IsFound rules r.session r.stray x spot → (h : List Packet) → StandsFor (view_of r) h
       → IsTaken (verdict_on (view_of r) h x)
   taken_at (Here place) f h stands =
-      subst IsTaken (sym (joins_as rules h x (placed r.session x place) (f.seated cells (segments rules h).last stands.kept))) tt
+      subst IsTaken (sym (joins_as rules h x (placed r.session x place)
+      (f.seated cells (segments rules h).last stands.kept))) tt
   taken_at Anew f h stands =
       subst IsTaken (sym (begins_as rules h x f.why (f.declined cells (segments rules h).last stands.kept)
       (subst (λ o. begins o x.sequence f.why ≡ true) stands.stray f.next))) tt
@@ -310,7 +326,8 @@ module _ {S : Type 0} (b : blocks.Ghosts S) (r : Inside) (x : Packet) (old new :
       (gone_of rules (t.last ++ placed r.session x place ∷ [])) (a t.last stands.kept))
   part_at Anew f a h stands =
       let t : Segments = segments rules h in
-      subst (GainsPart b.whole b.part old new (gone_out rules h)) (sym (ap (gone_in rules) (opens f h stands) ∙ gone_begun rules t x))
+      subst (GainsPart b.whole b.part old new (gone_out rules h))
+      (sym (ap (gone_in rules) (opens f h stands) ∙ gone_begun rules t x))
       (part_under b.whole b.part old new (released_closed rules t) (gone_of rules t.last)
       (released_segment rules t.last ++ gone_of rules (begun x ∷ [])) (a t.last stands.kept))
 

@@ -1,5 +1,6 @@
 -- A segment that begins: the rest of the one before goes out, and then the packet is accepted as the first.
-use Rattle.std.proofs.Common.{◌≡◌, ℕ, ◌+◌, ◌^◌, List, [], ◌∷◌, ◌++◌, length, ap, ◌∙◌, refl, subst, arith, append_assoc, Option, None, Result, Ok, Err}
+use Rattle.std.proofs.Common.{◌≡◌, ℕ, ◌+◌, ◌^◌, List, [], ◌∷◌, ◌++◌, length, ap, ◌∙◌, refl, subst, arith, append_assoc}
+use Rattle.std.proofs.Common.{Option, None, Result, Ok, Err}
 use Rattle.std.specs.Result.{IsErr}
 use Rattle.amr_frame.specs.declared.block_sink.BlockSink as blocks
 use Rattle.amr_frame.specs.declared.cell.Cell.{Cell}
@@ -95,7 +96,8 @@ stays_after b goes plan mid new o p q a r s t = record {
 }
 
 -- a step that went wrong, told of the answer that the caller gives
-pub stays_wrong : {S A C E : Type 0} (b : blocks.Ghosts S) (plan : Plan) (ring : Buffer Cell) (p q : S) (e : E) (r : Result C E)
+pub stays_wrong : {S A C E : Type 0} (b : blocks.Ghosts S) (plan : Plan) (ring : Buffer Cell) (p q : S) (e : E)
+    (r : Result C E)
     → IsErr r → StaysReady {A = A} b plan ring p q (Err e) → StaysReady b plan ring p q r
 stays_wrong b plan ring p q e (Ok a) wrong s = absurd cc
 stays_wrong b plan ring p q e (Err f) wrong s = record {

@@ -1,5 +1,6 @@
 -- What one packet more does to segments, and to what is counted of them.
-use Rattle.std.proofs.Common.{◌≡◌, ℕ, ◌+◌, ◌-◌, true, false, cond, List, [], ◌∷◌, ◌++◌, length, refl, sym, ap, ◌∙◌, arith}
+use Rattle.std.proofs.Common.{◌≡◌, ℕ, ◌+◌, ◌-◌, true, false, cond, List, [], ◌∷◌, ◌++◌, length, refl, sym, ap, ◌∙◌}
+use Rattle.std.proofs.Common.{arith}
 use Rattle.std.proofs.Common.{append_assoc, append-nil, length-append, Some, None, Option}
 use Rattle.std.specs.Prelude.{flat_map, map, sum}
 use Rattle.std.proofs.lemmas.List.{map-append}
@@ -15,7 +16,8 @@ use Rattle.amr_playout.specs.Refusals.{IsRefusal, IsRefusedAs}
 use Rattle.amr_playout.specs.Verdicts.{begins, stray_with}
 use Rattle.spec_segments.specs.Counts.{copy_count, late_count, repeats}
 use Rattle.spec_segments.specs.Release.{gone_in, gone_out, released_closed, released_segment}
-use Rattle.spec_segments.specs.Segments.{Segments, Begins, Within, accepted, accepted_of, at_start, follows, judged, passed, segments}
+use Rattle.spec_segments.specs.Segments.{Segments, Begins, Within, accepted, accepted_of, at_start, follows, judged}
+use Rattle.spec_segments.specs.Segments.{passed, segments}
 use Rattle.spec_segments.specs.Segments.{verdict, with_packet}
 use Rattle.spec_session.specs.Copies.{copies_in, copies_of}
 use Rattle.spec_session.specs.Counts.{different, late_in}
@@ -113,7 +115,8 @@ pub again_one : (rules : Rules) (s : Segments) (a : Accepted) (n : ℕ)
 again_one rules s a n e =
     let before = again_last rules s.closed s.last in
     let after = again_last rules s.closed (s.last ++ a ∷ []) in
-    let one = ap repeats (copies_of_more rules s.last a) ∙ again_more (copies_of rules s.last) (copies_in rules a) n e in
+    let one = ap repeats (copies_of_more rules s.last a) ∙ again_more (copies_of rules s.last)
+    (copies_in rules a) n e in
     omega (arith, before, after, one)
 
 pub again_begun : (rules : Rules) (all : List (List Accepted)) (a : Accepted) (n : ℕ)

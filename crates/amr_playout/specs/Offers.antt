@@ -1,5 +1,5 @@
 -- What an offer of a packet does, by its answer, and the end of a session. This project's own.
-use Rattle.std.specs.Prelude.{⊤, ◌≡◌, ℕ, ◌+◌, ◌≤◌, ◌++◌, List, [], ◌∷◌, length, true, false, Ok, Err, Result}
+use Rattle.std.specs.Prelude.{⊤, ◌≡◌, ℕ, ◌+◌, ◌≤◌, ◌++◌, List, [], ◌∷◌, length, true, false, None, Ok, Err, Result}
 use Rattle.amr_frame.specs.declared.block_sink.BlockSink as blocks
 use Rattle.amr_frame.specs.Frames.{Frame}
 use Rattle.amr_frame.specs.Steps.{BlockStep}
@@ -45,6 +45,7 @@ pub record Takes {S : Type 0} (b : blocks.Ghosts S) (v v' : View) (x : Packet) (
       → Gains b.whole old new (gone_by v h) (gone_by v (h ++ x ∷ []))
   pub counts : v'.counts ≡ counted_with v.counts t
   pub segment : v'.segment ≡ t.segment
+  pub stray : v'.stray ≡ None
   pub few : (t.late ≤ 384) × (t.copies ≤ 384)
   pub moves : Moves v v' t.released
   pub unspent : v'.spent ≡ false

@@ -82,15 +82,15 @@ Grows plan (Some t) (Some s) released =
     (t.horizon + released ≤ s.horizon) × (s.horizon ≤ t.horizon + plan.reach)
 
 -- how far the packet takes it that begins a segment, and how many blocks of the one before go out
-abbrev pub Restarts : Plan → Option Begun → ℕ → Type 0
-Restarts plan None released = ⊥
-Restarts plan (Some s) released = (s.horizon < 2 ^ 24 + plan.window) × (released ≤ plan.window)
+abbrev pub StartsOver : Plan → Option Begun → ℕ → Type 0
+StartsOver plan None released = ⊥
+StartsOver plan (Some s) released = (s.horizon < 2 ^ 24 + plan.window) × (released ≤ plan.window)
 
 -- a packet was taken into the segment so far, or began the next one
 abbrev pub Moves : View → View → ℕ → Type 0
 Moves v v' released =
     ((v'.segment ≡ v.segment) × Grows v.plan v.session v'.session released)
-    ⊎ ((v'.segment ≡ v.segment + 1) × Restarts v.plan v'.session released)
+    ⊎ ((v'.segment ≡ v.segment + 1) × StartsOver v.plan v'.session released)
 
 -- it goes by the plan that it did, and has a cell for each place of the window and each channel
 pub record KeepsPlan (v v' : View) : Type 0 where

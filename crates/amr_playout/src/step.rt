@@ -48,6 +48,7 @@ pub fn taken_into(segment: u64, step: &Step) -> Taken
 }
 
 /// Takes a packet where it is found to belong: at its place, or as the first of a new segment.
+#[inline(always)]
 pub fn take<B: BlockSink>(
     ring: &mut HeapCircularBuffer<Cell>,
     plan: &Plan,
@@ -73,6 +74,8 @@ pub fn take<B: BlockSink>(
 }
 
 /// Begins a segment with a packet: puts out the rest of the one before it, and then accepts the packet as the first.
+#[cold]
+#[inline(never)]
 fn begin<B: BlockSink>(
     ring: &mut HeapCircularBuffer<Cell>,
     plan: &Plan,

@@ -36,6 +36,7 @@ pub enum Spot {
 
 /// Where a packet is taken, or why it is refused. One that the segment so far refuses as off the grid or too far ahead
 /// begins a new one where it follows the stray.
+#[inline(always)]
 pub fn spot_of(
     plan: &Plan,
     before: &Option<Begun>,

@@ -25,7 +25,8 @@ stored_front r blocks all f =
           ∙ sym (append_assoc head (flat_map block_text blocks) (flat_map block_text f.0)),
     )
 
-pub more_packets : (r : Recording) (records more : List (List ℕ)) → heard r (records ++ more) ≡ heard r records ++ heard r more
+pub more_packets : (r : Recording) (records more : List (List ℕ)) → heard r
+    (records ++ more) ≡ heard r records ++ heard r more
 more_packets r records more = filter_map-append (packet_of r.profile r.asked) records more
 
 -- what the first records have let out is a front of what more of them mean, by what it is of blocks

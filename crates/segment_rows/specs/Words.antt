@@ -2,14 +2,13 @@
 -- packet with one frame of type 7 whose bits are 0.
 use Rattle.std.specs.Prelude.{ℕ, List, ◌++◌, ◌∷◌, length, map, Option, None}
 use Rattle.std.specs.Option.{option_map}
-use Rattle.amr_frame.specs.declared.codec.Codec.TheVariants.{Amr}
 use Rattle.spec_packet.specs.Log.{cut, framed}
 use Rattle.spec_segments.specs.Counts.{block_count, copy_count, late_count, refused_count}
-use Rattle.spec_segments.specs.Release.{gone_out, released}
+use Rattle.spec_segments.specs.Release.{gone_out}
 use Rattle.spec_segments.specs.Segments.{SegmentVerdict, all_of, segments, verdict}
 use Rattle.spec_session.specs.Packets.{Packet, packet_of, packets_of}
 use Rattle.spec_session.specs.Session.{Rules, rules_of}
-use Rattle.spec_store.specs.StorageFile.{storage_file}
+use Rattle.worked_rows.specs.Words as worked
 use Rattle.worked_rows.specs.Words.{packed, rec, rtp, seven, zeros}
 
 -- a record with a packet of this sequence number and timestamp, source 0, and its frame as it is
@@ -45,9 +44,9 @@ heard log = packets_of packed None (cut log).packets
 abbrev pub sizes : List ℕ → List ℕ
 sizes log = map length (all_of (segments wide (heard log)))
 
--- the file, segment after segment
+-- the file that is written for a log
 abbrev pub file : List ℕ → List ℕ
-file log = storage_file Amr 1 (released wide (heard log))
+file log = worked.file packed log
 
 -- how many packets aren't accepted, and the counts of the session
 pub record Counts : Type 0 where

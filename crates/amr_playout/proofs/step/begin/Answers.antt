@@ -14,7 +14,8 @@ returns-in_err-rest-clause-part g c =
 pub returns-in_err-step-clause-part : goal.returns-in_err-step-clause-part
 returns-in_err-step-clause-part g c =
     on_err c.from_residual-in_err-step.result _
-    (first_part g.B.BlockSink c.args.plan.now c.args.before.now (heard c.args.rtp.now c.args.payload.now) c.args.ring.now
+    (first_part g.B.BlockSink c.args.plan.now c.args.before.now
+    (heard c.args.rtp.now c.args.payload.now) c.args.ring.now
     c.restart.new.ring c.args.out.now c.restart.new.out c.accept.new.out c.in_ok-rest.rest c.in_ok-rest.ensures.over
     c.in_err-step.ensures.part)
 
