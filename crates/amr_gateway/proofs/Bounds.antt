@@ -1,5 +1,5 @@
 -- How far so many records take a session.
-use Rattle.std.proofs.Common.{◌≡◌, ℕ, ◌+◌, ◌^◌, ◌<◌, ◌≤◌, false, ap, arith, inl, inr, Option, Some, None}
+use Rattle.std.proofs.Common.{◌≡◌, ℕ, ◌+◌, ◌^◌, ◌≤◌, false, ap, arith, inl, inr, Option, Some, None}
 use Rattle.amr_gateway.specs.Going.{IsBounded, IsWithin}
 use Rattle.amr_playout.specs.Plans.{IsPlan}
 use Rattle.amr_playout.specs.Receiver.{Grows, Moves, StartsOver, TakesPackets, View}

@@ -28,7 +28,7 @@ use Rattle.amr_playout.specs.Offers.{Fails, IsTaken, Refuses, Takes, verdict_on}
 use Rattle.amr_playout.specs.Plans.{IsPlan, rules_in}
 use Rattle.amr_playout.specs.Receiver.{Grows, StandsFor, View, view_of}
 use Rattle.amr_playout.specs.Standing.{Holds, IsInside, IsSeat, horizon_with, last_from, placed}
-use Rattle.amr_playout.specs.Steps.{Accepts, HasSeat, Renews, TakesAt, TakesAtPart, taken_as}
+use Rattle.amr_playout.specs.Steps.{HasSeat, TakesAt, TakesAtPart, taken_as}
 use Rattle.amr_playout.specs.Verdicts.{IsFound, IsHere, IsPassed, IsAnew, IsWithinReach, begins, segment_with}
 use Rattle.amr_playout.specs.Verdicts.{stray_with}
 use Rattle.amr_playout.specs.Window.{held_of}

@@ -1,18 +1,16 @@
 -- A segment that begins: the rest of the one before goes out, and then the packet is accepted as the first.
-use Rattle.std.proofs.Common.{◌≡◌, ℕ, ◌+◌, ◌^◌, List, [], ◌∷◌, ◌++◌, length, ap, ◌∙◌, refl, subst, arith, append_assoc}
+use Rattle.std.proofs.Common.{◌≡◌, ℕ, ◌+◌, ◌^◌, List, [], ◌∷◌, ◌++◌, ap, ◌∙◌, refl, subst, arith, append_assoc}
 use Rattle.std.proofs.Common.{Option, None, Result, Ok, Err}
 use Rattle.std.specs.Result.{IsErr}
 use Rattle.amr_frame.specs.declared.block_sink.BlockSink as blocks
 use Rattle.amr_frame.specs.declared.cell.Cell.{Cell}
 use Rattle.amr_frame.proofs.BlocksLemmas.{GotBlocks-append, GotPrefix-behind, GotPrefix-longer}
 use Rattle.amr_frame.specs.Frames.{Frame}
-use Rattle.amr_frame.specs.Steps.{BlockStep}
 use Rattle.amr_io.specs.Fault.{HasCause}
 use Rattle.amr_playout.proofs.Results.{on_ok_then}
 use Rattle.amr_playout.specs.declared.plan.Plan.{Plan}
 use Rattle.amr_playout.specs.declared.session.Begun.{Begun}
 use Rattle.amr_playout.specs.declared.step.Step.{Step}
-use Rattle.amr_playout.specs.Gains.{Gains, GainsPart}
 use Rattle.amr_playout.specs.Plans.{rules_in}
 use Rattle.amr_playout.specs.Steps.{Accepts, AcceptsPart, Renews, RenewsPart, Restarts, RestartsPart, StaysReady}
 use Rattle.circular_buffer.specs.Buffer.{Buffer}

@@ -1,12 +1,11 @@
 -- What one packet more does to segments, and to what is counted of them.
-use Rattle.std.proofs.Common.{◌≡◌, ℕ, ◌+◌, ◌-◌, true, false, cond, List, [], ◌∷◌, ◌++◌, length, refl, sym, ap, ◌∙◌}
+use Rattle.std.proofs.Common.{◌≡◌, ℕ, ◌+◌, ◌-◌, true, false, cond, List, [], ◌∷◌, ◌++◌, length, sym, ap, ◌∙◌}
 use Rattle.std.proofs.Common.{arith}
-use Rattle.std.proofs.Common.{append_assoc, append-nil, length-append, Some, None, Option}
+use Rattle.std.proofs.Common.{append_assoc, append-nil, None, Option}
 use Rattle.std.specs.Prelude.{flat_map, map, sum}
 use Rattle.std.proofs.lemmas.List.{map-append}
 use Rattle.std.proofs.lemmas.List.Concat.{flat_map-append}
 use Rattle.std.proofs.lemmas.List.Sums.{fold-append}
-use Rattle.amr_frame.specs.Frames.{Frame}
 use Rattle.amr_playout.proofs.Accepting.{late_more, sum-more}
 use Rattle.amr_playout.proofs.Counts.{again_more}
 use Rattle.amr_playout.proofs.Holding.{copies_of_more}
@@ -14,17 +13,17 @@ use Rattle.amr_playout.specs.declared.answers.Refusal.{Refusal}
 use Rattle.amr_playout.specs.declared.answers.Refusal.TheVariants as refusal
 use Rattle.amr_playout.specs.Refusals.{IsRefusal, IsRefusedAs}
 use Rattle.amr_playout.specs.Verdicts.{begins, stray_with}
-use Rattle.spec_segments.specs.Counts.{copy_count, late_count, repeats}
-use Rattle.spec_segments.specs.Release.{gone_in, gone_out, released_closed, released_segment}
-use Rattle.spec_segments.specs.Segments.{Segments, Begins, Within, accepted, accepted_of, at_start, follows, judged}
+use Rattle.spec_segments.specs.Counts.{repeats}
+use Rattle.spec_segments.specs.Release.{gone_in, released_closed, released_segment}
+use Rattle.spec_segments.specs.Segments.{Segments, Begins, Within, accepted_of, at_start, judged}
 use Rattle.spec_segments.specs.Segments.{passed, segments}
 use Rattle.spec_segments.specs.Segments.{verdict, with_packet}
 use Rattle.spec_session.specs.Copies.{copies_in, copies_of}
 use Rattle.spec_session.specs.Counts.{different, late_in}
 use Rattle.spec_session.specs.Packets.{Packet}
-use Rattle.spec_session.specs.Release.{gone_of, released_of}
+use Rattle.spec_session.specs.Release.{gone_of}
 use Rattle.spec_session.specs.Session as session
-use Rattle.spec_session.specs.Session.{Accept, Accepted, FarAhead, OffGrid, OtherSource, Rules, Verdict, begun}
+use Rattle.spec_session.specs.Session.{Accept, Accepted, FarAhead, OffGrid, OtherSource, Rules, begun}
 
 -- a packet that joins the last segment, that begins another, and that is refused
 abbrev pub with_one : Segments → Accepted → Segments

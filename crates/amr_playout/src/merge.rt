@@ -1,12 +1,12 @@
 // Merging the frames of a packet into the ring.
-ghost use Rattle.std.specs.Prelude.{◌≡◌, ◌+◌, ◌-◌, ◌*◌, ◌/◌, ◌%◌, ◌^◌, ◌<◌, ◌≤◌, ◌⊎◌, ◌-ℤ◌, List, is_some, length, min, pos};
+ghost use Rattle.std.specs.Prelude.{◌≡◌, ◌+◌, ◌-◌, ◌*◌, ◌/◌, ◌^◌, ◌<◌, ◌≤◌, ◌⊎◌, ◌-ℤ◌, List, is_some, length, min, pos};
 ghost use Rattle.amr_frame.specs.Cells.{frame_of};
 ghost use Rattle.amr_playout.specs.Copied.{CanMerge, HoldsBest, IsPast, Merges, TakesCopies, copy_past, newly};
 ghost use Rattle.amr_playout.specs.Heard.{IsReadBy};
 ghost use Rattle.amr_playout.specs.Plans.{rules_in};
 ghost use Rattle.amr_playout.specs.Ring.{IsRing};
 ghost use Rattle.amr_playout.specs.Standing.{IsFitting, last_from};
-ghost use Rattle.amr_playout.specs.Window.{at, held_of};
+ghost use Rattle.amr_playout.specs.Window.{at};
 ghost use Rattle.amr_toc.specs.Viewed.{viewed};
 ghost use Rattle.spec_session.specs.Copies.{Copy, copies_in};
 ghost use Rattle.spec_session.specs.Release.{best_at};

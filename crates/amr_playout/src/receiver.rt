@@ -1,5 +1,5 @@
 // The receiver of a session.
-ghost use Rattle.std.specs.Prelude.{◌≡◌, ◌*◌, ◌^◌, ◌<◌, ◌≤◌, IfOk, List, None, OnErr, [], false, length, true};
+ghost use Rattle.std.specs.Prelude.{◌≡◌, ◌*◌, ◌<◌, IfOk, List, None, OnErr, [], false, length, true};
 ghost use Rattle.amr_frame.specs.Steps.{BlockStep};
 ghost use Rattle.amr_playout.specs.Heard.{heard};
 ghost use Rattle.amr_playout.specs.Plans.{IsPlan, rules_in};

@@ -1,7 +1,6 @@
 // What becomes of a packet: its place in the segment so far, that it begins a new one, or why it is refused.
 ghost use Rattle.std.specs.Int.{cast_signed, w32};
-ghost use Rattle.std.specs.Prelude.{◌≡◌, ◌+◌, ◌-◌, ◌*◌, ◌^◌, ◌<◌, ◌≤◌, IfErr, IfOk, List, None, Option, Some};
-ghost use Rattle.amr_frame.specs.Frames.{Frame};
+ghost use Rattle.std.specs.Prelude.{◌≡◌, ◌+◌, ◌-◌, ◌*◌, ◌^◌, ◌<◌, ◌≤◌, IfErr, IfOk, None, Option, Some};
 ghost use Rattle.amr_frame.specs.Tables.{ticks};
 ghost use Rattle.amr_playout.specs.Heard.{IsReadBy, heard};
 ghost use Rattle.amr_playout.specs.Plans.{rules_in};
