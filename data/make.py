@@ -261,7 +261,26 @@ def misread():
     return "record --codec AMR", 0, log(packets), storage("AMR", 1, blocks(seen)), counts(packets=20, blocks=20)
 
 
-CASES = [one_frame, speech, loss, reordered, doubled, late, packed, stereo, wideband, stray, cut, octet_alignment, misread]
+def anew():
+    """The sender begins anew twice while its sequence numbers go on: on another grid of timestamps, and half an hour later.
+
+    Each time the first packet is passed over, and with the next one the call goes on, right behind what came before.
+    """
+    draw = Draw(13)
+    first = 3_000_000_000
+    second = first + 20 * TICKS["AMR"] + 77
+    parts = [(first, 20), (second, 15), (second + 90_000 * TICKS["AMR"], 12)]
+    packets, kept, sequence = [], [], 7001
+    for timestamp, talk in parts:
+        frames = call("AMR", draw, [(talk, 0)], always(7))
+        sender = Sender("AMR", sequence=sequence, timestamp=timestamp)
+        packets += [one for _, one in sent(sender, frames)]
+        sequence = sender.sequence
+        kept += frames[1:] if kept else frames
+    return "record --codec AMR", 0, log(packets), storage("AMR", 1, blocks(kept)), counts(packets=47, place=2, blocks=45)
+
+
+CASES = [one_frame, speech, loss, reordered, doubled, late, packed, stereo, wideband, stray, cut, octet_alignment, misread, anew]
 
 
 def capture(packets):
