@@ -1,0 +1,108 @@
+-- What a plan that the sender takes has, and what its packets can say.
+use Rattle.std.proofs.Common.{◌≡◌, refl, ap, Option, Some, None, ℕ, zero, suc, ◌*◌, ◌≤◌, ◌<◌, List, [], ◌∷◌, length, Bool, true, false, not, ◌||◌, ◌&&◌, eqb, ltb, arith, get_or, ◌∙◌}
+use Rattle.std.proofs.lemmas.List.{length-map}
+use Rattle.std.specs.Prelude.{option_map, is_some}
+use Rattle.std.specs.List.{AllByRecursion}
+use Rattle.amr_frame.specs.Blocks.{frames_of}
+use Rattle.amr_frame.specs.Cells.{frame_of}
+use Rattle.amr_frame.specs.declared.cell.Cell.{Cell}
+use Rattle.amr_frame.specs.declared.codec.Codec.{Codec}
+use Rattle.amr_frame.specs.First.{when}
+use Rattle.amr_frame.specs.Frames.{Frame, IsFrame}
+use Rattle.amr_frame.specs.declared.profile.ProfileFault.{ProfileFault}
+use Rattle.amr_frame.specs.Profiles.{IsValid, group_bound, profile_fault}
+use Rattle.amr_frame.proofs.FirstLemmas.{first_none, or_false, when_none}
+use Rattle.amr_sender.specs.Packets.{CanCarry, said}
+use Rattle.amr_sender.specs.Plans.{Serves}
+use Rattle.spec_payload.specs.Values.{FitsGroup, IsValue}
+use Rattle.spec_sending.specs.Plans.{carried_blocks, grouped_blocks, is_request, is_speech, passes_group}
+use Rattle.amr_frame.specs.Tables.{kind_in}
+use Rattle.spec_sending.specs.declared.fault.SendFault.TheVariants as fault
+use Rattle.spec_sending.specs.declared.plan.SendPlan.{SendPlan}
+
+above : (n : ℕ) → eqb n 0 ≡ false → 1 ≤ n
+above n e = grind arith
+
+within : (a b : ℕ) → ltb a b ≡ false → b ≤ a
+within a b e = grind arith
+
+below : (a b : ℕ) → ltb a b ≡ true → a < b
+below a b e = grind arith
+
+is_none : (o : Option ProfileFault) → option_map (λ why. fault.Profile why) o ≡ None → o ≡ None
+is_none None e = refl
+is_none (Some why) e = absurd cc
+
+first_true : (a b : Bool) → not (a && b) ≡ false → a ≡ true
+first_true true b e = refl
+first_true false b e = absurd cc
+
+-- packets of consecutive blocks fit the groups of the format
+fits : (o : Option ℕ) (s : SendPlan) (n : ℕ) (frames : List Frame) → passes_group o s ≡ false → s.length ≡ 1 → n ≤ s.blocks
+    → FitsGroup o n (said s frames)
+fits None s n frames e one le = (refl, refl)
+fits (Some most) s n frames e one le =
+    let b = within most (grouped_blocks s) (or_false (ltb most (grouped_blocks s)) (ltb most (carried_blocks s)) e).0 in
+    let g : grouped_blocks s ≡ s.blocks * 1 = ap (λ l. s.blocks * l) one in
+    (omega arith, omega arith, omega arith, omega (arith, b, g))
+
+-- what a plan that the sender takes has
+pub record Facts (s : SendPlan) : Type 0 where
+  pub format : IsValid s.profile
+  pub blocks : 1 ≤ s.blocks
+  pub most : s.blocks ≤ s.profile.max_blocks
+  pub group : (n : ℕ) (frames : List Frame) → n ≤ s.blocks → FitsGroup (group_bound s.profile.interleaving) n (said s frames)
+  pub request : s.cmr < 16
+  pub number : s.pt ≤ 127
+
+pub facts : (s : SendPlan) → Serves s → Facts s
+facts s h =
+    let few = eqb s.blocks 0 || ltb s.profile.max_blocks (carried_blocks s) in
+    let far = eqb s.length 0 || ltb 16 s.length in
+    let alone = ltb 1 s.length && not (is_some s.profile.interleaving) in
+    let group = passes_group (group_bound s.profile.interleaving) s in
+    let again = not (eqb s.repeat 0) && not (eqb s.length 1) in
+    let asks = not (is_request s.profile.codec s.cmr) in
+    let format = option_map (λ why. fault.Profile why) (profile_fault s.profile) in
+    let f1 = first_none format _ h.valid in
+    let f2 = first_none (when few fault.Blocks) _ f1.1 in
+    let f3 = first_none (when far fault.Length) _ f2.1 in
+    let f4 = first_none (when alone fault.Length) _ f3.1 in
+    let f5 = first_none (when group fault.Group) _ f4.1 in
+    let f6 = first_none (when again fault.Repeat) _ f5.1 in
+    let f7 = first_none (when asks fault.Request) _ f6.1 in
+    let f8 = first_none (when (ltb 127 s.pt) fault.Number) _ f7.1 in
+    let b = or_false (eqb s.blocks 0) (ltb s.profile.max_blocks (carried_blocks s)) (when_none few fault.Blocks f2.0) in
+    let most = within s.profile.max_blocks (carried_blocks s) b.1 in
+    let speech = eqb s.cmr 15 || is_speech (kind_in s.profile.codec s.cmr) in
+    record {
+      format = is_none (profile_fault s.profile) f1.0;
+      blocks = above s.blocks b.0;
+      most = omega (arith, most);
+      group = λ n frames le. fits (group_bound s.profile.interleaving) s n frames (when_none group fault.Group f5.0) h.plain.length le;
+      request = below s.cmr 16 (first_true (ltb s.cmr 16) speech (when_none asks fault.Request f7.0));
+      number = within 127 s.pt (when_none (ltb 127 s.pt) fault.Number f8.0);
+    }
+
+-- the blocks of one packet are a value of the format
+pub value : (s : SendPlan) (cells : List Cell) → Serves s → (h : CanCarry s cells) → IsValue s.profile (said s (frames_of cells))
+value s cells plan h =
+    let k = facts s plan in
+    let le = h.most in
+    let most = k.most in
+    record {
+      cmr = k.request;
+      blocks = h.count;
+      some = h.some;
+      most = omega (arith, le, most);
+      whole = length-map cells frame_of ∙ h.blocks.whole;
+      group = k.group h.count (frames_of cells) h.most;
+      frames = h.blocks.frames;
+    }
+
+-- the type of a frame among others
+pub type_at : (codec : Codec) (xs : List Cell) (i : ℕ) (d : Cell) → AllByRecursion (IsFrame codec) (frames_of xs) → i < length xs
+    → (get_or xs i d).ft ≤ 15
+type_at codec [] i d h l = absurd (omega arith)
+type_at codec (x ∷ xs) zero d h l = h.0.type
+type_at codec (x ∷ xs) (suc i) d h l = type_at codec xs i d h.1 (omega arith)

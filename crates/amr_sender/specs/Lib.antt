@@ -1,0 +1,4 @@
+pub mod Packets
+pub mod Plans
+pub mod Sender
+pub mod Sends

@@ -1,0 +1,165 @@
+// The sender of a stream.
+ghost use Rattle.std.specs.Prelude.{◌≡◌, ◌≤◌, ◌&&◌, cond, nat_eq, not, IfOk, IsTrue, List, OnErr, OnOk, [], false, length, true};
+ghost use Rattle.amr_frame.specs.Blocks.{IsPresentBlock, frames_of};
+ghost use Rattle.amr_frame.specs.Frames.{Frame};
+ghost use Rattle.amr_sender.specs.Plans.{IsPlain};
+ghost use Rattle.rtp_packet.specs.PacketSteps.{PacketStep};
+ghost use Rattle.spec_sending.specs.Plans.{IsPlan};
+ghost use Rattle.spec_sending.specs.Sending.{begun};
+
+use crate::packet::{Head, MOST_OCTETS, send, speaks};
+use amr_frame::Cell;
+use amr_io::Failed;
+use rtp_packet::PacketSink;
+use spec_sending::SendPlan;
+use std::alloc::{AllocError, Global};
+use std::marker::Model;
+
+/// The sender of one stream: blocks in their order go in, and the packets that carry them come out,
+/// each as soon as its last block came. All its memory is taken when it is made.
+#[derive(Drop)]
+pub struct Sender {
+    plan: SendPlan,
+    /// The cells of the blocks held for the next packet, and how many blocks they are.
+    cells: Vec<Cell>,
+    count: u8,
+    /// The octets of one packet.
+    room: Vec<u8>,
+    blocks: u64,
+    packets: u64,
+    /// The marker of the next packet, once it has a block.
+    marked: bool,
+    /// The last block has a frame of speech.
+    spoken: bool,
+    spent: bool,
+}
+
+impl Model for Sender {
+    ghost use Rattle.amr_sender.specs.Sender.{IsSender, View, view_of};
+
+    ghost Value = { View };
+
+    ghost view = { view_of };
+
+    ghost invariant = { IsSender };
+}
+
+/// The marker of the next packet with a block more: only the first one that it carries counts.
+fn marker_with(count: u8, marked: bool, speech: bool, spoken: bool) -> bool
+    ensures { result ≡ cond (nat_eq count 0) (speech && not spoken) marked }
+{
+    if count == 0 {
+        speech && !spoken
+    } else {
+        marked
+    }
+}
+
+impl Sender {
+    ghost use Rattle.amr_sender.specs.Sender.{StandsFor, TakesBlock};
+    ghost use Rattle.amr_sender.specs.Sends.{Finishes, FinishesPart, Takes, TakesPart};
+
+    /// A sender that has got nothing, with room for one packet and the blocks that it carries.
+    pub fn create(alloc: Global, plan: SendPlan) -> Result<Sender, AllocError>
+        requires valid { IsPlan plan }
+        requires plain { IsPlain plan }
+
+        ensures stands { IfOk result (λ s. StandsFor s []) }
+        ensures plan { IfOk result (λ s. s.plan ≡ plan) }
+        ensures blocks { IfOk result (λ s. s.blocks ≡ 0) }
+        ensures unspent { IfOk result (λ s. s.spent ≡ false) }
+    {
+        let most = usize::from(plan.blocks) * usize::from(plan.profile.channels);
+        let cells = Vec::with_capacity(alloc, most)?;
+        let room = vec![in alloc; 0u8; MOST_OCTETS]?;
+        Ok(Sender {
+            plan,
+            cells,
+            count: 0,
+            room,
+            blocks: 0,
+            packets: 0,
+            marked: false,
+            spoken: false,
+            spent: false,
+        })
+    }
+
+    /// How many packets were put so far, unless a call failed.
+    pub fn packets(&self) -> u64
+        ensures view { result ≡ self.now.packets }
+        ensures begun { (b : List (List Frame)) → StandsFor self.now b
+            → result ≡ length (begun self.now.plan b) }
+    {
+        self.packets
+    }
+
+    /// Takes a block, and puts the packet of which it is the last.
+    ///
+    /// `Failed` comes only where the sink's faults rose: the sender is then spent.
+    pub fn put_block<P: PacketSink>(&mut self, cells: &[Cell], out: &mut P) -> Result<(), Failed>
+        requires takes { TakesBlock self.old }
+        requires block { IsPresentBlock self.old.plan.profile.codec self.old.plan.profile.channels
+            cells.now }
+        requires sink { IsTrue (P.ready out.old) }
+
+        ensures taken { OnOk result (Takes P.PacketSink self.old self.new (frames_of cells.now)
+            out.old out.new) }
+        ensures part { OnErr result (TakesPart P.PacketSink self.old self.new
+            (frames_of cells.now) out.old out.new) }
+        ensures plan { self.new.plan ≡ self.old.plan }
+        ensures step { PacketStep P.PacketSink out.old out.new result }
+    {
+        let speech = speaks(self.plan.profile.codec, cells);
+        self.marked = marker_with(self.count, self.marked, speech, self.spoken);
+        self.spoken = speech;
+        let Ok(()) = self.cells.extend_from_slice(cells) else {
+            unreachable!()
+        };
+        self.count += 1;
+        self.blocks += 1;
+        if self.count < self.plan.blocks {
+            return Ok(());
+        }
+        self.spent = true;
+        let head = Head {
+            marked: self.marked,
+            number: self.packets,
+            first: self.blocks - u64::from(self.count),
+        };
+        send(&self.plan, head, &self.cells, &mut self.room, out)?;
+        self.cells.clear();
+        self.count = 0;
+        self.packets += 1;
+        self.spent = false;
+        Ok(())
+    }
+
+    /// Puts the packet of the blocks that are left, where there are any, and ends the sender.
+    ///
+    /// `Failed` comes only where the sink's faults rose.
+    pub fn finish<P: PacketSink>(&mut self, out: &mut P) -> Result<(), Failed>
+        requires unspent { self.old.spent ≡ false }
+        requires sink { IsTrue (P.ready out.old) }
+
+        ensures finished { OnOk result
+            (Finishes P.PacketSink self.old self.new out.old out.new) }
+        ensures part { OnErr result (FinishesPart P.PacketSink self.old out.old out.new) }
+        ensures spent { self.new.spent ≡ true }
+        ensures plan { self.new.plan ≡ self.old.plan }
+        ensures step { PacketStep P.PacketSink out.old out.new result }
+    {
+        self.spent = true;
+        if self.count == 0 {
+            return Ok(());
+        }
+        let head = Head {
+            marked: self.marked,
+            number: self.packets,
+            first: self.blocks - u64::from(self.count),
+        };
+        send(&self.plan, head, &self.cells, &mut self.room, out)?;
+        self.packets += 1;
+        Ok(())
+    }
+}
