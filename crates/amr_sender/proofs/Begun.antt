@@ -1,4 +1,5 @@
--- The packets of a plain plan by their numbers: those begun, those sent, and the one that a block completes or that is left.
+-- The packets of a plain plan by their numbers: those begun, those sent, and the one that a block completes or that
+-- is left.
 use Rattle.std.proofs.Common.{◌≡◌, ℕ, zero, suc, ◌+◌, ◌-◌, ◌*◌, ◌/◌, ◌≤◌, min, Bool, true, not, cond, List, [], ◌∷◌, ◌++◌, length, map, take, drop, flat_map, sym, refl, ap, ◌∙◌, arith, append-nil}
 use Rattle.std.specs.Prelude.{◌&&◌, filter, nat_eq}
 use Rattle.std.specs.List.{enumerate_from, range_with_len, list_all}
@@ -49,7 +50,8 @@ shifted f g a c (suc n) h =
     let first : f a ≡ g c =
     ap f (let e : a ≡ a + 0 = omega arith in e) ∙ h 0 ∙ ap g (let e : c + 0 ≡ c = omega arith in e) in
     let rest = shifted f g (a + 1) (c + 1) n
-    (λ k. ap f (let e : a + 1 + k ≡ a + (1 + k) = omega arith in e) ∙ h (1 + k) ∙ ap g (let e : c + (1 + k) ≡ c + 1 + k = omega arith in e)) in
+    (λ k. ap f (let e : a + 1 + k ≡ a + (1 + k) = omega arith in e) ∙ h (1 + k)
+    ∙ ap g (let e : c + (1 + k) ≡ c + 1 + k = omega arith in e)) in
     λ i. first i ∷ rest i
 
 -- the elements from one place on, to the end
@@ -90,14 +92,17 @@ pub begun_so : (s : SendPlan) (b : List (List Frame)) → IsPlain s
     → begun s b ≡ map (packet_at s b) (range_with_len 0 (length b / s.blocks))
 begun_so s b plain =
     let m = length b in
-    ap (λ l. map (packet_of s b) (numbered s b (cond (nat_eq l 1) (map (piece_at s m) (range_with_len 0 (m / s.blocks))) (turns s m)))) plain.length
+    ap (λ l. map (packet_of s b) (numbered s b
+    (cond (nat_eq l 1) (map (piece_at s m) (range_with_len 0 (m / s.blocks))) (turns s m)))) plain.length
     ∙ numbered_so s b (m / s.blocks) plain
 
 pub sent_so : (s : SendPlan) (b : List (List Frame)) → IsPlain s
     → sent s b ≡ map (packet_at s b) (range_with_len 0 (pieces s.blocks (length b)))
 sent_so s b plain =
     let m = length b in
-    ap (λ l. map (packet_of s b) (numbered s b (cond (nat_eq l 1) (map (piece_at s m) (range_with_len 0 (pieces s.blocks m))) (turns s m ++ rests s m)))) plain.length
+    ap (λ l. map (packet_of s b) (numbered s b
+    (cond (nat_eq l 1) (map (piece_at s m) (range_with_len 0 (pieces s.blocks m))) (turns s m ++ rests s m))))
+    plain.length
     ∙ numbered_so s b (pieces s.blocks m) plain
 
 length_packets : (s : SendPlan) (b : List (List Frame)) (n : ℕ) → length (map (packet_at s b) (range_with_len 0 n)) ≡ n
@@ -116,7 +121,8 @@ pub begun_no_more : (s : SendPlan) (b : List (List Frame)) (x : List Frame) → 
     → (length b + 1) / s.blocks ≡ length b / s.blocks → begun s (b ++ x ∷ []) ≡ begun s b
 begun_no_more s b x plan same =
     let stays = begun_stays s b (x ∷ []) plan.valid in
-    let more : length (b ++ x ∷ []) / s.blocks ≡ length b / s.blocks = ap (λ m. m / s.blocks) (length-append b (x ∷ [])) ∙ same in
+    let more : length (b ++ x ∷ []) / s.blocks ≡ length b / s.blocks = ap (λ m. m / s.blocks)
+    (length-append b (x ∷ [])) ∙ same in
     none_more (begun s b) (begun s (b ++ x ∷ [])) stays.0 stays.1
     (length_begun s (b ++ x ∷ []) plan.plain ∙ more ∙ sym (length_begun s b plan.plain))
 
@@ -177,7 +183,8 @@ packet_made s b q h head frames plan len le number first marked said =
     (λ k. ap (block_of b) (omega (arith, place)))
     ∙ ap (λ k. map (block_of b) (range_with_len (q * n) k)) count
     ∙ from_place b (q * n) h len in
-    let all : carried s b p ≡ blocks_of b p = ap (λ v. cond (v && nat_eq s.length 1) (trimmed (blocks_of b p)) (blocks_of b p)) plan.plain.all in
+    let all : carried s b p ≡ blocks_of b p = ap
+    (λ v. cond (v && nat_eq s.length 1) (trimmed (blocks_of b p)) (blocks_of b p)) plan.plain.all in
     let frames_are : frames ≡ flat_map (λ x. x) (carried s b p) = said ∙ ap (flat_map (λ x. x)) (sym (all ∙ blocks)) in
     let from : head.first ≡ p.first = first ∙ sym place in
     let marker : head.marked ≡ marks s b p.first = marked ∙ ap (marks s b) (sym place) in

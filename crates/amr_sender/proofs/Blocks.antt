@@ -11,7 +11,8 @@ use Rattle.amr_frame.specs.Frames.{IsFrame}
 use Rattle.amr_sender.specs.Packets.{AreBlocks, CanCarry}
 use Rattle.spec_sending.specs.declared.plan.SendPlan.{SendPlan}
 
-all_append : {X : Type 0} (P : X → Type 0) (xs ys : List X) → AllByRecursion P xs → AllByRecursion P ys → AllByRecursion P (xs ++ ys)
+all_append : {X : Type 0} (P : X → Type 0) (xs ys : List X) → AllByRecursion P xs → AllByRecursion P ys
+    → AllByRecursion P (xs ++ ys)
 all_append P [] ys a b = b
 all_append P (x ∷ xs) ys a b = (a.0, all_append P xs ys a.1 b)
 

@@ -21,13 +21,15 @@ headed f payload h =
     ∙ sym (λ i. (fixed ++ sources i ++ extension i ++ [] ++ padding i) ++ payload)
 
 -- the payload was written into the room, and then the header before it
-pub begun_with : (f : RtpFields) (payload head room octets : List ℕ) (n : ℕ) → IsPlainHeader f → length head ≡ 12 → length octets ≡ n
+pub begun_with : (f : RtpFields) (payload head room octets : List ℕ) (n : ℕ) → IsPlainHeader f → length head ≡ 12
+    → length octets ≡ n
     → 12 ≤ length room → head ≡ written (packet_of f []) → octets ≡ payload
     → take (12 + n) (head ++ drop 12 (put_mid 12 (12 + n - 12) room octets)) ≡ written (packet_of f payload)
 begun_with f payload head room octets n plain len size fits is said =
     let post = post_of 12 (12 + n - 12) room in
     let front = length-take-le 12 room fits in
-    let rest : drop 12 (put_mid 12 (12 + n - 12) room octets) ≡ octets ++ post = drop_at (take 12 room) (octets ++ post) 12 front in
+    let rest : drop 12 (put_mid 12 (12 + n - 12) room octets) ≡ octets ++ post = drop_at (take 12 room)
+    (octets ++ post) 12 front in
     let whole : length (head ++ octets) ≡ 12 + n = length-append head octets ∙ omega (arith, len, size) in
     ap (λ l. take (12 + n) (head ++ l)) rest
     ∙ ap (take (12 + n)) (sym (append_assoc head octets post))

@@ -38,7 +38,8 @@ first_true true b e = refl
 first_true false b e = absurd cc
 
 -- packets of consecutive blocks fit the groups of the format
-fits : (o : Option ℕ) (s : SendPlan) (n : ℕ) (frames : List Frame) → passes_group o s ≡ false → s.length ≡ 1 → n ≤ s.blocks
+fits : (o : Option ℕ) (s : SendPlan) (n : ℕ) (frames : List Frame) → passes_group o s ≡ false → s.length ≡ 1
+    → n ≤ s.blocks
     → FitsGroup o n (said s frames)
 fits None s n frames e one le = (refl, refl)
 fits (Some most) s n frames e one le =
@@ -51,7 +52,8 @@ pub record Facts (s : SendPlan) : Type 0 where
   pub format : IsValid s.profile
   pub blocks : 1 ≤ s.blocks
   pub most : s.blocks ≤ s.profile.max_blocks
-  pub group : (n : ℕ) (frames : List Frame) → n ≤ s.blocks → FitsGroup (group_bound s.profile.interleaving) n (said s frames)
+  pub group : (n : ℕ) (frames : List Frame) → n ≤ s.blocks →
+      FitsGroup (group_bound s.profile.interleaving) n (said s frames)
   pub request : s.cmr < 16
   pub number : s.pt ≤ 127
 
@@ -79,13 +81,15 @@ facts s h =
       format = is_none (profile_fault s.profile) f1.0;
       blocks = above s.blocks b.0;
       most = omega (arith, most);
-      group = λ n frames le. fits (group_bound s.profile.interleaving) s n frames (when_none group fault.Group f5.0) h.plain.length le;
+      group = λ n frames le. fits (group_bound s.profile.interleaving) s n frames
+          (when_none group fault.Group f5.0) h.plain.length le;
       request = below s.cmr 16 (first_true (ltb s.cmr 16) speech (when_none asks fault.Request f7.0));
       number = within 127 s.pt (when_none (ltb 127 s.pt) fault.Number f8.0);
     }
 
 -- the blocks of one packet are a value of the format
-pub value : (s : SendPlan) (cells : List Cell) → Serves s → (h : CanCarry s cells) → IsValue s.profile (said s (frames_of cells))
+pub value : (s : SendPlan) (cells : List Cell) → Serves s → (h : CanCarry s cells)
+    → IsValue s.profile (said s (frames_of cells))
 value s cells plan h =
     let k = facts s plan in
     let le = h.most in
@@ -101,7 +105,8 @@ value s cells plan h =
     }
 
 -- the type of a frame among others
-pub type_at : (codec : Codec) (xs : List Cell) (i : ℕ) (d : Cell) → AllByRecursion (IsFrame codec) (frames_of xs) → i < length xs
+pub type_at : (codec : Codec) (xs : List Cell) (i : ℕ) (d : Cell) → AllByRecursion (IsFrame codec) (frames_of xs)
+    → i < length xs
     → (get_or xs i d).ft ≤ 15
 type_at codec [] i d h l = absurd (omega arith)
 type_at codec (x ∷ xs) zero d h l = h.0.type

@@ -49,7 +49,8 @@ spoken_is s b x =
 -- the marker of the next packet, with a block more
 pub marker_is : (v : View) (b : List (List Frame)) (x : List Frame) (q h : ℕ) → Serves v.plan → StandsFor v b
     → Counted (length b) v.plan.blocks q h
-    → cond (nat_eq h 0) (has_speech v.plan.profile.codec x && not v.spoken) v.marked ≡ marks v.plan (b ++ x ∷ []) (q * v.plan.blocks)
+    → cond (nat_eq h 0) (has_speech v.plan.profile.codec x && not v.spoken) v.marked ≡ marks v.plan (b ++ x ∷ [])
+    (q * v.plan.blocks)
 marker_is v b x q zero plan st c =
     let s = v.plan in
     let a = c.all in
@@ -99,7 +100,8 @@ with_held v held marked spoken = record {
   spent = v.spent;
 }
 
-pub stands_held : (v : View) (b : List (List Frame)) (x held : List Frame) (marked spoken : Bool) (h : ℕ) → Serves v.plan → StandsFor v b
+pub stands_held : (v : View) (b : List (List Frame)) (x held : List Frame) (marked spoken : Bool) (h : ℕ)
+    → Serves v.plan → StandsFor v b
     → h ≡ v.blocks % v.plan.blocks → h + 1 < v.plan.blocks → Grown v x held marked spoken h
     → StandsFor (with_held v held marked spoken) (b ++ x ∷ [])
 stands_held v b x held marked spoken h plan st is lt g =
@@ -111,12 +113,14 @@ stands_held v b x held marked spoken h plan st is lt g =
     let len : length (b ++ x ∷ []) ≡ length b + 1 = length-append b (x ∷ []) in
     let a = c.all in
     let blocks = st.blocks in
-    let first : first_held s (length (b ++ x ∷ [])) ≡ q * n = ap (first_held s) len ∙ first_is s (length b + 1) q (h + 1) plan.plain c' in
+    let first : first_held s (length (b ++ x ∷ [])) ≡ q * n = ap (first_held s) len
+    ∙ first_is s (length b + 1) q (h + 1) plan.plain c' in
     record {
       unspent = st.unspent;
       blocks = omega (arith, blocks, len);
       packets = st.packets ∙ ap length (sym (begun_no_more s b x plan c'.whole));
-      held = g.frames ∙ held_is b x v.held (q * n) (omega (arith, a)) (st.held ∙ ap (λ k. flat_map (λ x. x) (drop k b)) (first_is s (length b) q h plan.plain c))
+      held = g.frames ∙ held_is b x v.held (q * n) (omega (arith, a))
+          (st.held ∙ ap (λ k. flat_map (λ x. x) (drop k b)) (first_is s (length b) q h plan.plain c))
           ∙ ap (λ k. flat_map (λ x. x) (drop k (b ++ x ∷ []))) (sym first);
       marked = λ l. g.marker ∙ marker_is v b x q h plan st c ∙ ap (marks s (b ++ x ∷ [])) (sym first);
       spoken = g.speech ∙ sym (spoken_is s b x);
@@ -132,7 +136,8 @@ quiet p sink v b x h plan st is lt =
     record {
       packets = [];
       got = refl;
-      more_by = begun_no_more s b x plan (held_more (length b) n (length b / n) h c lt).whole ∙ sym (append-nil (begun s b));
+      more_by = begun_no_more s b x plan (held_more (length b) n (length b / n) h c lt).whole
+          ∙ sym (append-nil (begun s b));
     }
 
 -- ---- a block completes a packet
@@ -149,7 +154,8 @@ with_sent v marked spoken = record {
   spent = false;
 }
 
-pub stands_sent : (v : View) (b : List (List Frame)) (x held : List Frame) (marked spoken : Bool) (h : ℕ) → Serves v.plan → StandsFor v b
+pub stands_sent : (v : View) (b : List (List Frame)) (x held : List Frame) (marked spoken : Bool) (h : ℕ)
+    → Serves v.plan → StandsFor v b
     → h ≡ v.blocks % v.plan.blocks → h + 1 ≡ v.plan.blocks → Grown v x held marked spoken h
     → StandsFor (with_sent v marked spoken) (b ++ x ∷ [])
 stands_sent v b x held marked spoken h plan st is eq g =
@@ -163,19 +169,23 @@ stands_sent v b x held marked spoken h plan st is eq g =
     let a = c'.all in
     let blocks = st.blocks in
     let packets = st.packets in
-    let more = ap length (begun_one_more s b x plan c'.whole) ∙ length-append (begun s b) (packet_at s (b ++ x ∷ []) q ∷ []) in
-    let first : first_held s (length (b ++ x ∷ [])) ≡ (q + 1) * n = ap (first_held s) len ∙ first_is s (length b + 1) (q + 1) 0 plan.plain c' in
+    let more = ap length (begun_one_more s b x plan c'.whole)
+    ∙ length-append (begun s b) (packet_at s (b ++ x ∷ []) q ∷ []) in
+    let first : first_held s (length (b ++ x ∷ [])) ≡ (q + 1) * n = ap (first_held s) len
+    ∙ first_is s (length b + 1) (q + 1) 0 plan.plain c' in
     record {
       unspent = refl;
       blocks = omega (arith, blocks, len);
       packets = omega (arith, packets, more);
-      held = ap (flat_map (λ x. x)) (sym (drop_all (first_held s (length (b ++ x ∷ []))) (b ++ x ∷ []) (omega (arith, first, len, a))));
+      held = ap (flat_map (λ x. x)) (sym
+          (drop_all (first_held s (length (b ++ x ∷ []))) (b ++ x ∷ []) (omega (arith, first, len, a))));
       marked = λ l. absurd (omega (arith, first, len, a, l));
       spoken = g.speech ∙ sym (spoken_is s b x);
     }
 
 -- what the sender makes of the blocks held and one more is the packet that is begun
-pub packet_is : (v : View) (b : List (List Frame)) (x held : List Frame) (marked spoken : Bool) (h : ℕ) (head : Head) → Serves v.plan → StandsFor v b
+pub packet_is : (v : View) (b : List (List Frame)) (x held : List Frame) (marked spoken : Bool) (h : ℕ) (head : Head)
+    → Serves v.plan → StandsFor v b
     → h ≡ v.blocks % v.plan.blocks → h + 1 ≡ v.plan.blocks → Grown v x held marked spoken h
     → head.marked ≡ marked → head.number ≡ v.packets → head.first + (h + 1) ≡ v.blocks + 1
     → begun v.plan (b ++ x ∷ []) ≡ begun v.plan b ++ packet_with v.plan head held ∷ []
@@ -194,7 +204,8 @@ packet_is v b x held marked spoken h head plan st is eq g marker number first =
     (number ∙ st.packets ∙ length_begun s b plan.plain)
     (omega (arith, first, blocks, a))
     (marker ∙ g.marker ∙ marker_is v b x q h plan st c)
-    (g.frames ∙ held_is b x v.held (q * n) (omega (arith, a)) (st.held ∙ ap (λ k. flat_map (λ x. x) (drop k b)) (first_is s (length b) q h plan.plain c))) in
+    (g.frames ∙ held_is b x v.held (q * n) (omega (arith, a))
+    (st.held ∙ ap (λ k. flat_map (λ x. x) (drop k b)) (first_is s (length b) q h plan.plain c))) in
     begun_one_more s b x plan c'.whole ∙ ap (λ k. begun s b ++ k ∷ []) (sym made)
 
 -- ---- the end
@@ -227,7 +238,8 @@ none_sent v b plan st is =
     let s = v.plan in
     let n = s.blocks in
     let one = (facts s plan).blocks in
-    sent_no_more s b plan (pieces_whole (length b) n (length b / n) (counted (length b) n 0 one (is ∙ ap (λ k. k % n) st.blocks)) one)
+    sent_no_more s b plan (pieces_whole (length b) n (length b / n)
+    (counted (length b) n 0 one (is ∙ ap (λ k. k % n) st.blocks)) one)
 
 -- ---- what the sink got
 
@@ -235,7 +247,8 @@ pub sends_one : {S : Type 0} (p : packets.Ghosts S) (old new : S) (less more : L
     → p.whole old (written packet) new → more ≡ less ++ packet ∷ [] → Sends p old new less more
 sends_one p old new less more packet whole is = record { packets = packet ∷ []; got = (new, whole, refl); more_by = is }
 
-pub sends_none : {S : Type 0} (p : packets.Ghosts S) (sink : S) (less more : List RtpPacket) → more ≡ less → Sends p sink sink less more
+pub sends_none : {S : Type 0} (p : packets.Ghosts S) (sink : S) (less more : List RtpPacket) → more ≡ less
+    → Sends p sink sink less more
 sends_none p sink less more is = record { packets = []; got = refl; more_by = is ∙ sym (append-nil less) }
 
 pub sends_part : {S : Type 0} (p : packets.Ghosts S) (old new : S) (less more : List RtpPacket) (packet : RtpPacket)
@@ -249,7 +262,15 @@ sends_part p old new less more packet part is = record {
 -- ---- a sender that was made
 
 pub fresh : (s : SendPlan) (held : List Frame) → Serves s → held ≡ []
-    → StandsFor (record { plan = s; blocks = 0; packets = 0; held = held; marked = false; spoken = false; spent = false }) []
+    → StandsFor (record {
+      plan = s;
+      blocks = 0;
+      packets = 0;
+      held = held;
+      marked = false;
+      spoken = false;
+      spent = false;
+    }) []
 fresh s held plan is =
     let n = s.blocks in
     let one = (facts s plan).blocks in
@@ -265,7 +286,9 @@ fresh s held plan is =
 
 -- ---- the answers of the calls
 
-pub takes_held : {S : Type 0} (p : packets.Ghosts S) (sink : S) (v : View) (x held : List Frame) (marked spoken : Bool) (h : ℕ) → Serves v.plan
+pub takes_held : {S : Type 0} (p : packets.Ghosts S) (sink : S) (v : View) (x held : List Frame)
+    (marked spoken : Bool) (h : ℕ)
+    → Serves v.plan
     → v.spent ≡ false → h ≡ v.blocks % v.plan.blocks → h + 1 < v.plan.blocks → Grown v x held marked spoken h
     → Takes p v (with_held v held marked spoken) x sink sink
 takes_held p sink v x held marked spoken h plan unspent is lt g = record {
@@ -275,7 +298,8 @@ takes_held p sink v x held marked spoken h plan unspent is lt g = record {
   unspent = unspent;
 }
 
-pub takes_sent : {S : Type 0} (p : packets.Ghosts S) (old new : S) (v : View) (x held : List Frame) (marked spoken : Bool) (h : ℕ) (head : Head)
+pub takes_sent : {S : Type 0} (p : packets.Ghosts S) (old new : S) (v : View) (x held : List Frame)
+    (marked spoken : Bool) (h : ℕ) (head : Head)
     → Serves v.plan → h ≡ v.blocks % v.plan.blocks → h + 1 ≡ v.plan.blocks → Grown v x held marked spoken h
     → head.marked ≡ marked → head.number ≡ v.packets → head.first + (h + 1) ≡ v.blocks + 1
     → p.whole old (written (packet_with v.plan head held)) new
@@ -288,7 +312,8 @@ takes_sent p old new v x held marked spoken h head plan is eq g marker number fi
   unspent = refl;
 }
 
-pub takes_part : {S : Type 0} (p : packets.Ghosts S) (old new : S) (v w : View) (x held : List Frame) (marked spoken : Bool) (h : ℕ) (head : Head)
+pub takes_part : {S : Type 0} (p : packets.Ghosts S) (old new : S) (v w : View) (x held : List Frame)
+    (marked spoken : Bool) (h : ℕ) (head : Head)
     → Serves v.plan → h ≡ v.blocks % v.plan.blocks → h + 1 ≡ v.plan.blocks → Grown v x held marked spoken h
     → head.marked ≡ marked → head.number ≡ v.packets → head.first + (h + 1) ≡ v.blocks + 1
     → p.part old (written (packet_with v.plan head held)) new → w.spent ≡ true
@@ -299,7 +324,8 @@ takes_part p old new v w x held marked spoken h head plan is eq g marker number 
   spent = spent;
 }
 
-pub ends_none : {S : Type 0} (p : packets.Ghosts S) (sink : S) (v w : View) → Serves v.plan → 0 ≡ v.blocks % v.plan.blocks
+pub ends_none : {S : Type 0} (p : packets.Ghosts S) (sink : S) (v w : View) → Serves v.plan
+    → 0 ≡ v.blocks % v.plan.blocks
     → w.packets ≡ v.packets → Finishes p v w sink sink
 ends_none p sink v w plan is same = record {
   out = λ b st. sends_none p sink (begun v.plan b) (sent v.plan b) (none_sent v b plan st is);

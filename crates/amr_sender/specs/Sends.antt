@@ -22,17 +22,18 @@ pub record SendsPart {S : Type 0} (p : packets.Ghosts S) (old new : S)
   pub got : GotPrefix p.whole p.part old (map written packets) new
   pub more_by : more ≡ less ++ packets
 
--- a block was taken: the sender stands for it too, and the sink got the packets that are begun by it
-pub record Takes {S : Type 0} (p : packets.Ghosts S) (v v' : View) (block : List Frame) (old new : S)
-    : Type 0 where
+-- a block was taken: the sender stands for it too, and the sink got the packets that are begun by
+-- it
+pub record Takes {S : Type 0} (p : packets.Ghosts S) (v v' : View) (block : List Frame)
+    (old new : S) : Type 0 where
   pub stands : (b : List (List Frame)) → StandsFor v b → StandsFor v' (b ++ block ∷ [])
   pub out : (b : List (List Frame)) → StandsFor v b
       → Sends p old new (begun v.plan b) (begun v.plan (b ++ block ∷ []))
   pub blocks : v'.blocks ≡ v.blocks + 1
   pub unspent : v'.spent ≡ false
 
--- the sink failed on a block: it got a prefix of the packets that are begun by it, and the sender is
--- spent
+-- the sink failed on a block: it got a prefix of the packets that are begun by it, and the sender
+-- is spent
 pub record TakesPart {S : Type 0} (p : packets.Ghosts S) (v v' : View) (block : List Frame)
     (old new : S) : Type 0 where
   pub part : (b : List (List Frame)) → StandsFor v b

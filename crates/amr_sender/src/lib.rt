@@ -2,8 +2,12 @@
 //! from memory that is reserved at the start.
 #![tactic(auto)]
 
+mod laws;
 mod packet;
 mod sender;
+#[cfg(test)]
+mod tests;
 
+pub use laws::calls_add_up;
 pub use sender::Sender;
 pub use spec_sending::{SendFault, SendPlan};

@@ -66,7 +66,7 @@ impl Sender {
 
         ensures stands { IfOk result (λ s. StandsFor s []) }
         ensures plan { IfOk result (λ s. s.plan ≡ plan) }
-        ensures blocks { IfOk result (λ s. s.blocks ≡ 0) }
+        ensures none { IfOk result (λ s. (s.blocks ≡ 0) × (s.packets ≡ 0)) }
         ensures unspent { IfOk result (λ s. s.spent ≡ false) }
     {
         let most = usize::from(plan.blocks) * usize::from(plan.profile.channels);

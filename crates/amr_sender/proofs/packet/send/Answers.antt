@@ -19,10 +19,13 @@ write_packet-size-requires-clause-carries g c = record {
 
 pub returns : goal.returns
 returns g c =
-    let same = c.write_packet-size.ensures.octets.front ∙ ap written (c.fields_of.ensures.packet (frames_of c.args.cells.now)) in
+    let same = c.write_packet-size.ensures.octets.front
+    ∙ ap written (c.fields_of.ensures.packet (frames_of c.args.cells.now)) in
     let put = c.put_packet.ensures in
     record {
-      whole = subst (λ o. OnOk c.put_packet.result (g.P.PacketSink.whole c.args.out.now o c.put_packet.new.self)) same put.whole;
-      part = subst (λ o. OnErr c.put_packet.result (g.P.PacketSink.part c.args.out.now o c.put_packet.new.self)) same put.part;
+      whole = subst (λ o. OnOk c.put_packet.result (g.P.PacketSink.whole c.args.out.now o c.put_packet.new.self))
+          same put.whole;
+      part = subst (λ o. OnErr c.put_packet.result (g.P.PacketSink.part c.args.out.now o c.put_packet.new.self)) same
+          put.part;
       step = record { cause = put.cause; same = put.same; ready = put.ready };
     }

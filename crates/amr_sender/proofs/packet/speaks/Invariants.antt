@@ -5,4 +5,5 @@ use Rattle.amr_sender.proofs.packet.speaks.Given as goal
 
 -- no frame passed is one of speech
 abbrev pub invariant-loop-cell : goal.invariant-loop-cell
-invariant-loop-cell l = has_speech l.codec (frames_of (drop l.cell-index l.block)) ≡ has_speech l.codec (frames_of l.block)
+invariant-loop-cell l =
+    has_speech l.codec (frames_of (drop l.cell-index l.block)) ≡ has_speech l.codec (frames_of l.block)

@@ -10,7 +10,9 @@ returns-clause-octets c =
     let len = c.write_rtp.auto.out in
     let size = c.write_payload.auto.out in
     record {
-      front = begun_with c.args.fields.now (text c.args.profile.now (meant c.args.payload.now)) c.write_rtp.new.out c.args.room.now
-          c.write_payload.new.out c.size_payload-size.result c.requires.header (search rules) (search rules) (omega (arith, room))
+      front = begun_with c.args.fields.now
+          (text c.args.profile.now (meant c.args.payload.now)) c.write_rtp.new.out c.args.room.now
+          c.write_payload.new.out c.size_payload-size.result c.requires.header (search rules) (search rules)
+          (omega (arith, room))
           c.write_rtp.ensures.octets c.write_payload.ensures;
     }

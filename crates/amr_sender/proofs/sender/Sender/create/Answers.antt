@@ -13,7 +13,8 @@ invariant_of-result c =
     let exact = c.in_ok-cells.ensures.exact in
     let one = c.from.ensures in
     let other = c.from-2.ensures in
-    let product : c.from.result * c.from-2.result ≡ c.args.plan.blocks * c.args.plan.profile.channels = (λ i. one i * other i) in
+    let product : c.from.result * c.from-2.result ≡ c.args.plan.blocks * c.args.plan.profile.channels = (λ i. one i *
+    other i) in
     record {
       plan = serves;
       octets = c.in_ok-room.ensures.len;
@@ -26,4 +27,5 @@ invariant_of-result c =
 
 pub returns-clause-stands : goal.returns-clause-stands
 returns-clause-stands c =
-    fresh c.args.plan (frames_of c.in_ok-cells.cells.items) (record { valid = c.requires.valid; plain = c.requires.plain }) (ap frames_of c.in_ok-cells.ensures.items)
+    fresh c.args.plan (frames_of c.in_ok-cells.cells.items)
+    (record { valid = c.requires.valid; plain = c.requires.plain }) (ap frames_of c.in_ok-cells.ensures.items)

@@ -1,4 +1,4 @@
-use Rattle.std.proofs.Common.{◌≡◌, ◌≤◌, ◌+◌, ◌-◌, ◌%◌, ap, sym, ◌∙◌, subst, arith, refl, true, false}
+use Rattle.std.proofs.Common.{◌+◌, ◌-◌, ap, sym, ◌∙◌, subst, arith, refl, true, List}
 use Rattle.amr_frame.specs.Blocks.{frames_of}
 use Rattle.amr_frame.specs.declared.cell.Cell.{Cell}
 use Rattle.amr_sender.proofs.Blocks.{carried}
@@ -26,7 +26,8 @@ returns-then-self-eq0-clause-finished g c =
       spent = true;
     } in
     subst (λ (o : View). Finishes g.P.PacketSink o w c.args.out.now c.args.out.now) c.self.view_is
-    (ends_none g.P.PacketSink c.args.out.now (view_of s) w c.self.invariant.plan (sym c.if-self-eq0.true ∙ c.self.invariant.count unspent) refl)
+    (ends_none g.P.PacketSink c.args.out.now (view_of s) w c.self.invariant.plan
+    (sym c.if-self-eq0.true ∙ c.self.invariant.count unspent) refl)
 
 pub send-requires-clause-cells : goal.send-requires-clause-cells
 send-requires-clause-cells g c =
@@ -45,10 +46,13 @@ returns-in_err-send-clause-part g c =
     let from = c.from.ensures in
     let packets = c.self.invariant.packets unspent in
     let head : Head = record { marked = s.marked; number = s.packets; first = s.blocks - c.from.result } in
-    let part = subst (λ (xs : Rattle.std.proofs.Common.List Cell). g.P.PacketSink.part c.args.out.now (written (packet_with s.plan head (frames_of xs))) c.send.new.out) c.deref.ensures.value c.in_err-send.ensures.part in
+    let part = subst (λ (xs : List Cell). g.P.PacketSink.part c.args.out.now
+    (written (packet_with s.plan head (frames_of xs))) c.send.new.out) c.deref.ensures.value
+    c.in_err-send.ensures.part in
     on_err c.from_residual.result _
     (subst (λ (o : View). FinishesPart g.P.PacketSink o c.args.out.now c.send.new.out) c.self.view_is
-    (ends_part g.P.PacketSink c.args.out.now c.send.new.out (view_of s) s.count head c.self.invariant.plan (c.self.invariant.count unspent)
+    (ends_part g.P.PacketSink c.args.out.now c.send.new.out (view_of s) s.count head c.self.invariant.plan
+    (c.self.invariant.count unspent)
     (grind (arith, some)) refl refl (omega (arith, from, packets)) part))
 
 pub returns-clause-finished : goal.returns-clause-finished
@@ -59,7 +63,9 @@ returns-clause-finished g c =
     let from = c.from.ensures in
     let packets = c.self.invariant.packets unspent in
     let head : Head = record { marked = s.marked; number = s.packets; first = s.blocks - c.from.result } in
-    let whole = subst (λ (xs : Rattle.std.proofs.Common.List Cell). g.P.PacketSink.whole c.args.out.now (written (packet_with s.plan head (frames_of xs))) c.send.new.out) c.deref.ensures.value c.in_ok-send.ensures.whole in
+    let whole = subst (λ (xs : List Cell). g.P.PacketSink.whole c.args.out.now
+    (written (packet_with s.plan head (frames_of xs))) c.send.new.out) c.deref.ensures.value
+    c.in_ok-send.ensures.whole in
     let w : View = record {
       plan = s.plan;
       blocks = s.blocks;
@@ -70,5 +76,6 @@ returns-clause-finished g c =
       spent = true;
     } in
     subst (λ (o : View). Finishes g.P.PacketSink o w c.args.out.now c.send.new.out) c.self.view_is
-    (ends_sent g.P.PacketSink c.args.out.now c.send.new.out (view_of s) w s.count head c.self.invariant.plan (c.self.invariant.count unspent)
+    (ends_sent g.P.PacketSink c.args.out.now c.send.new.out (view_of s) w s.count head c.self.invariant.plan
+    (c.self.invariant.count unspent)
     (grind (arith, some)) refl refl (omega (arith, from, packets)) whole refl)

@@ -1,0 +1,151 @@
+ghost use Rattle.std.specs.Prelude.{◌≡◌, ◌≤◌, IsTrue, false, length};
+ghost use Rattle.amr_frame.specs.Cells.{frame_of};
+ghost use Rattle.amr_frame.specs.Frames.{IsFrame};
+ghost use Rattle.amr_frame.specs.Tables.{is_reserved};
+ghost use Rattle.amr_frame.specs.declared.codec.Codec.TheVariants.{Amr};
+ghost use Rattle.amr_sender.specs.Plans.{IsPlain};
+
+use crate::{SendPlan, Sender};
+use amr_bits::BitSlice;
+use amr_frame::{Cell, Codec, Profile, bits_of};
+use amr_io::MemorySink;
+use rtp_packet::{LogWriter, PacketSink};
+use std::alloc::{AllocError, Global};
+use std::test::Fail;
+
+// A plan of AMR with one channel: so many blocks a packet, and where numbers and timestamps begin.
+fn plan(blocks: u8, seq: u16, ts: u32) -> SendPlan
+    ensures plain { IsPlain result }
+    ensures codec { result.profile.codec ≡ Amr }
+    ensures channels { result.profile.channels ≡ 1 }
+{
+    SendPlan {
+        profile: Profile::plain(Codec::Amr, 1),
+        blocks,
+        length: 1,
+        repeat: 0,
+        skip_empty: false,
+        cmr: 15,
+        pt: 96,
+        ssrc: 0x0102_0304,
+        seq,
+        ts,
+    }
+}
+
+// A frame whose bits are 0.
+fn zeros(ft: u8) -> Cell
+    requires type_exists { ft ≤ 15 }
+    requires not_reserved { is_reserved Amr ft ≡ false }
+    ensures present { IsTrue result.present }
+    ensures frame { IsFrame Amr (frame_of result) }
+{
+    let Some(bits) = BitSlice::of(&[0; 60], 0, bits_of(Codec::Amr, ft)) else {
+        unreachable!()
+    };
+    Cell::from_bits(Codec::Amr, ft, true, bits)
+}
+
+// Speech of type 7, a silence descriptor of type 8, or else NO_DATA.
+fn frame(ft: u8) -> Cell
+    ensures present { IsTrue result.present }
+    ensures frame { IsFrame Amr (frame_of result) }
+{
+    match ft {
+        7 => zeros(7),
+        8 => zeros(8),
+        _ => zeros(15),
+    }
+}
+
+// Sends frames of these types, a block each, and tells how many packets were put, where no call
+// failed.
+fn send<P: PacketSink>(
+    alloc: Global,
+    plan: SendPlan,
+    types: &[u8],
+    out: &mut P,
+) -> Result<Option<u64>, AllocError>
+    requires ready { IsTrue (P.ready out.old) }
+    requires plain { IsPlain plan }
+    requires codec { plan.profile.codec ≡ Amr }
+    requires channels { plan.profile.channels ≡ 1 }
+    requires few { length types.now ≤ 8 }
+{
+    if let Err(_) = plan.check() {
+        return Ok(None);
+    }
+    let mut sender = Sender::create(alloc, plan)?;
+    for ft in types {
+        if let Err(_) = sender.put_block(&[frame(*ft)], out) {
+            return Ok(None);
+        }
+    }
+    if let Err(_) = sender.finish(out) {
+        return Ok(None);
+    }
+    Ok(Some(sender.packets()))
+}
+
+#[test]
+fn a_frame_of_speech_is_one_packet(rt: HostRuntime) -> Result<(), Fail> {
+    let mut sink = MemorySink::create(rt.alloc(), 100, 100, &[])?;
+    let mut log = LogWriter::new(&mut sink);
+    assert_eq!(rt; send(rt.alloc(), plan(1, 0, 0), &[7], &mut log)?, Some(1));
+    let mut expected = [0u8; 46];
+    expected[..16].copy_from_slice(&[0, 44, 0x80, 0xE0, 0, 0, 0, 0, 0, 0, 1, 2, 3, 4, 0xF3, 0xC0]);
+    assert_eq!(rt; sink.octets(), expected.as_slice());
+    Ok(())
+}
+
+#[test]
+fn the_rest_goes_at_the_end_and_numbers_begin_anew(rt: HostRuntime) -> Result<(), Fail> {
+    let mut sink = MemorySink::create(rt.alloc(), 100, 100, &[])?;
+    let mut log = LogWriter::new(&mut sink);
+    let plan = plan(2, 0xFFFF, 0xFFFF_FF60);
+    assert_eq!(rt;
+        send(rt.alloc(), plan, &[15, 15, 15, 15, 15], &mut log)?,
+        Some(3)
+    );
+    assert_eq!(rt;
+        sink.octets(),
+        &[
+            0, 14, 0x80, 0x60, 0xFF, 0xFF, 0xFF, 0xFF, 0xFF, 0x60, 1, 2, 3, 4, 0xFF, 0xDF, // two
+            0, 14, 0x80, 0x60, 0, 0, 0, 0, 0, 0xA0, 1, 2, 3, 4, 0xFF, 0xDF, // two more
+            0, 14, 0x80, 0x60, 0, 1, 0, 0, 1, 0xE0, 1, 2, 3, 4, 0xF7, 0xC0
+        ][..]
+    );
+    Ok(())
+}
+
+#[test]
+fn the_marker_stands_where_speech_begins(rt: HostRuntime) -> Result<(), Fail> {
+    let mut sink = MemorySink::create(rt.alloc(), 200, 200, &[])?;
+    let mut log = LogWriter::new(&mut sink);
+    assert_eq!(rt;
+        send(rt.alloc(), plan(1, 0, 0), &[8, 7, 7, 15, 7], &mut log)?,
+        Some(5)
+    );
+    let octets = sink.octets();
+    assert_eq!(rt; octets.len(), 175);
+    // The second octet of each packet: its marker and its payload type.
+    for (at, second) in [(3, 0x60), (24, 0xE0), (70, 0x60), (116, 0x60), (132, 0xE0)] {
+        assert_eq!(rt; octets.get(at), Some(&second), "octet {at}");
+    }
+    Ok(())
+}
+
+#[test]
+fn a_front_of_the_packets_is_put_where_there_is_no_room(rt: HostRuntime) -> Result<(), Fail> {
+    for room in 0..32 {
+        let mut sink = MemorySink::create(rt.alloc(), room, 5, &[])?;
+        let mut log = LogWriter::new(&mut sink);
+        assert_eq!(rt;
+            send(rt.alloc(), plan(1, 0, 0), &[15, 15], &mut log)?,
+            None,
+            "room {room}"
+        );
+        assert_eq!(rt; sink.octets().len(), room, "room for {room}");
+    }
+    Ok(())
+}
