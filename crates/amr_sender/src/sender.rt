@@ -146,6 +146,7 @@ impl Sender {
             (Finishes P.PacketSink self.old self.new out.old out.new) }
         ensures part { OnErr result (FinishesPart P.PacketSink self.old out.old out.new) }
         ensures spent { self.new.spent ≡ true }
+        ensures blocks { self.new.blocks ≡ self.old.blocks }
         ensures plan { self.new.plan ≡ self.old.plan }
         ensures step { PacketStep P.PacketSink out.old out.new result }
     {
