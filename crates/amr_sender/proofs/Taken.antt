@@ -193,10 +193,10 @@ packet_is v b x held marked spoken h head plan st is eq g marker number first =
     let s = v.plan in
     let n = s.blocks in
     let one = (facts s plan).blocks in
+    let all = b ++ x ∷ [] in
     let q = length b / n in
     let c = counted (length b) n h one (is ∙ ap (λ k. k % n) st.blocks) in
     let c' = whole_more (length b) n q h c eq one in
-    let all = b ++ x ∷ [] in
     let len : length all ≡ length b + 1 = length-append b (x ∷ []) in
     let a = c.all in
     let blocks = st.blocks in
@@ -261,27 +261,20 @@ sends_part p old new less more packet part is = record {
 
 -- ---- a sender that was made
 
-pub fresh : (s : SendPlan) (held : List Frame) → Serves s → held ≡ []
-    → StandsFor (record {
-      plan = s;
-      blocks = 0;
-      packets = 0;
-      held = held;
-      marked = false;
-      spoken = false;
-      spent = false;
-    }) []
-fresh s held plan is =
+pub fresh : (v : View) → Serves v.plan → v.spent ≡ false → v.blocks ≡ 0 → v.packets ≡ 0 → v.held ≡ []
+    → v.spoken ≡ false → StandsFor v []
+fresh v plan unspent blocks packets held spoken =
+    let s = v.plan in
     let n = s.blocks in
     let one = (facts s plan).blocks in
     let none : 0 / n ≡ 0 = ap (λ k. k / n) (let e : 0 ≡ 0 * n + 0 = omega arith in e) ∙ div-mul-add 0 n 0 one in
     record {
-      unspent = refl;
-      blocks = refl;
-      packets = sym (length_begun s [] plan.plain ∙ none);
-      held = is ∙ ap (flat_map (λ x. x)) (sym (drop_all (first_held s 0) [] (omega arith)));
+      unspent = unspent;
+      blocks = blocks;
+      packets = packets ∙ sym (length_begun s [] plan.plain ∙ none);
+      held = held ∙ ap (flat_map (λ x. x)) (sym (drop_all (first_held s 0) [] (omega arith)));
       marked = λ l. absurd (omega (arith, l));
-      spoken = refl;
+      spoken = spoken;
     }
 
 -- ---- the answers of the calls

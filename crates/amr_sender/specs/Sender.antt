@@ -9,14 +9,14 @@ use Rattle.spec_sending.specs.Portions.{grouped}
 use Rattle.spec_sending.specs.Sending.{begun, marks}
 use Rattle.spec_sending.specs.declared.plan.SendPlan.{SendPlan}
 
--- the plan; how many blocks came and how many packets were sent; the frames of the blocks held for
--- the next packet, block by block; its marker; whether the last block has speech; and whether the
--- sender was ended or its sink has failed
+-- the plan; the frames of the blocks held for the next packet, block by block; how many blocks came
+-- and how many packets were sent; the next packet's marker; whether the last block has speech; and
+-- whether the sender was ended or its sink has failed
 pub record View : Type 0 where
   pub plan : SendPlan
+  pub held : List Frame
   pub blocks : ℕ
   pub packets : ℕ
-  pub held : List Frame
   pub marked : Bool
   pub spoken : Bool
   pub spent : Bool
@@ -24,9 +24,9 @@ pub record View : Type 0 where
 abbrev pub view_of : Inside → View
 view_of s = record {
   plan = s.plan;
+  held = frames_of s.cells.items;
   blocks = s.blocks;
   packets = s.packets;
-  held = frames_of s.cells.items;
   marked = s.marked;
   spoken = s.spoken;
   spent = s.spent;

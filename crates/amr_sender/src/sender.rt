@@ -1,11 +1,9 @@
 // The sender of a stream.
 ghost use Rattle.std.specs.Prelude.{◌≡◌, ◌≤◌, ◌&&◌, cond, nat_eq, not, IfOk, IsTrue, List, OnErr, OnOk, [], false, length, true};
 ghost use Rattle.amr_frame.specs.Blocks.{IsPresentBlock, frames_of};
-ghost use Rattle.amr_frame.specs.Frames.{Frame};
 ghost use Rattle.amr_sender.specs.Plans.{IsPlain};
 ghost use Rattle.rtp_packet.specs.PacketSteps.{PacketStep};
 ghost use Rattle.spec_sending.specs.Plans.{IsPlan};
-ghost use Rattle.spec_sending.specs.Sending.{begun};
 
 use crate::packet::{Head, MOST_OCTETS, send, speaks};
 use amr_frame::Cell;
@@ -56,8 +54,10 @@ fn marker_with(count: u8, marked: bool, speech: bool, spoken: bool) -> bool
 }
 
 impl Sender {
+    ghost use Rattle.amr_frame.specs.Frames.{Frame};
     ghost use Rattle.amr_sender.specs.Sender.{StandsFor, TakesBlock};
     ghost use Rattle.amr_sender.specs.Sends.{Finishes, FinishesPart, Takes, TakesPart};
+    ghost use Rattle.spec_sending.specs.Sending.{begun};
 
     /// A sender that has got nothing, with room for one packet and the blocks that it carries.
     pub fn create(alloc: Global, plan: SendPlan) -> Result<Sender, AllocError>

@@ -1,4 +1,4 @@
-use Rattle.std.proofs.Common.{◌≡◌, ◌*◌, arith, ap}
+use Rattle.std.proofs.Common.{◌≡◌, ◌*◌, arith, ap, refl}
 use Rattle.amr_frame.specs.Blocks.{frames_of}
 use Rattle.amr_sender.proofs.Blocks.{none_held}
 use Rattle.amr_sender.proofs.Counting.{none_behind}
@@ -27,5 +27,5 @@ invariant_of-result c =
 
 pub returns-clause-stands : goal.returns-clause-stands
 returns-clause-stands c =
-    fresh c.args.plan (frames_of c.in_ok-cells.cells.items)
-    (record { valid = c.requires.valid; plain = c.requires.plain }) (ap frames_of c.in_ok-cells.ensures.items)
+    fresh _ (record { valid = c.requires.valid; plain = c.requires.plain }) refl refl refl
+    (ap frames_of c.in_ok-cells.ensures.items) refl

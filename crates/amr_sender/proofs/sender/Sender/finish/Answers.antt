@@ -16,15 +16,7 @@ pub returns-then-self-eq0-clause-finished : goal.returns-then-self-eq0-clause-fi
 returns-then-self-eq0-clause-finished g c =
     let s = c.self.inside in
     let unspent = ap (λ (o : View). o.spent) c.self.view_is ∙ c.requires.unspent in
-    let w : View = record {
-      plan = s.plan;
-      blocks = s.blocks;
-      packets = s.packets;
-      held = frames_of s.cells.items;
-      marked = s.marked;
-      spoken = s.spoken;
-      spent = true;
-    } in
+    let w : View = record (view_of s) { spent = true } in
     subst (λ (o : View). Finishes g.P.PacketSink o w c.args.out.now c.args.out.now) c.self.view_is
     (ends_none g.P.PacketSink c.args.out.now (view_of s) w c.self.invariant.plan
     (sym c.if-self-eq0.true ∙ c.self.invariant.count unspent) refl)
@@ -62,19 +54,11 @@ returns-clause-finished g c =
     let some = c.if-self-eq0.false in
     let from = c.from.ensures in
     let packets = c.self.invariant.packets unspent in
+    let w : View = record (view_of s) { packets = s.packets + 1; spent = true } in
     let head : Head = record { marked = s.marked; number = s.packets; first = s.blocks - c.from.result } in
     let whole = subst (λ (xs : List Cell). g.P.PacketSink.whole c.args.out.now
     (written (packet_with s.plan head (frames_of xs))) c.send.new.out) c.deref.ensures.value
     c.in_ok-send.ensures.whole in
-    let w : View = record {
-      plan = s.plan;
-      blocks = s.blocks;
-      packets = s.packets + 1;
-      held = frames_of s.cells.items;
-      marked = s.marked;
-      spoken = s.spoken;
-      spent = true;
-    } in
     subst (λ (o : View). Finishes g.P.PacketSink o w c.args.out.now c.send.new.out) c.self.view_is
     (ends_sent g.P.PacketSink c.args.out.now c.send.new.out (view_of s) w s.count head c.self.invariant.plan
     (c.self.invariant.count unspent)

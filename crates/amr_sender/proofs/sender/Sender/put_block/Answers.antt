@@ -142,15 +142,17 @@ returns-clause-taken g c =
     let s = c.self.inside in
     let inv = c.self.invariant in
     let takes = ready s c.args.self.now c.self.view_is c.requires.takes in
+    let old = c.args.out.now in
+    let new = c.send.new.out in
     let held = frames_of c.deref.result.now in
     let marked = c.marker_with-self-inside.result in
     let speech = c.speaks-speech.result in
     let x = frames_of c.args.cells.now in
+    let none = ap frames_of c.clear.ensures.items in
     let lt = less s inv takes.unspent in
     let ge = c.if-self.false in
     let from = c.from.ensures in
     let packets = inv.packets takes.unspent in
-    let none = ap frames_of c.clear.ensures.items in
     let w : List Frame → View = λ l. record {
       plan = s.plan;
       blocks = s.blocks + 1;
@@ -160,8 +162,6 @@ returns-clause-taken g c =
       spoken = speech;
       spent = false;
     } in
-    let old = c.args.out.now in
-    let new = c.send.new.out in
     subst (λ (o : View). Takes g.P.PacketSink o (w (frames_of c.clear.new.self.items)) x old new) c.self.view_is
     (subst (λ l. Takes g.P.PacketSink (view_of s) (w l) x old new) (sym none)
     (takes_sent g.P.PacketSink old new (view_of s) x held marked speech s.count
