@@ -3,6 +3,7 @@ use Rattle.std.specs.Prelude.{◌≡◌, ℕ, false, List, Option, Some, None}
 use Rattle.amr_cli.specs.declared.job.Job.{Job}
 use Rattle.amr_cli.specs.declared.job.Job.TheVariants.{RecordLog}
 use Rattle.amr_frame.specs.declared.profile.Profile.{Profile}
+use Rattle.amr_frame.specs.Tables.{mode_bits}
 use Rattle.amr_gateway.specs.Jobs.{IsServed as IsRecordJob, recording_meaning}
 use Rattle.amr_gateway.specs.declared.job.RecordJob.{RecordJob}
 use Rattle.amr_playout.specs.Plans.{plan_fault}
@@ -24,6 +25,8 @@ format_of w = record {
   sorting = false;
   interleaving = None;
   max_blocks = w.max_blocks;
+  strict = false;
+  modes = mode_bits w.codec;
 }
 
 abbrev pub plan_of : RecordWords → Plan

@@ -1,6 +1,6 @@
 -- The frame types of both codecs and their numbers of bits (3GPP TS 26.101 and TS 26.201; RFC 4867,
 -- 4.3.2). How many of a frame's first bits a frame CRC covers is this project's own.
-use Rattle.std.specs.Prelude.{ℕ, Bool, true, false, List, [], ◌∷◌, ◌++◌, replicate, slice_index_or}
+use Rattle.std.specs.Prelude.{ℕ, ◌-◌, ◌^◌, Bool, true, false, List, [], ◌∷◌, ◌++◌, replicate, slice_index_or}
 use Rattle.amr_frame.specs.declared.codec.Codec.{Codec}
 use Rattle.amr_frame.specs.declared.codec.Codec.TheVariants.{Amr, AmrWb}
 use Rattle.amr_frame.specs.declared.codec.Kind.{Kind}
@@ -67,3 +67,18 @@ is_reserved codec ft = elim (kind_in codec ft) [
   | Empty ↦ false
   | Reserved ↦ true
 ]
+
+-- whether a frame type is a speech mode
+abbrev pub is_mode : Codec → ℕ → Bool
+is_mode codec ft = elim (kind_in codec ft) [
+  | Speech ↦ true
+  | Sid ↦ false
+  | Lost ↦ false
+  | Empty ↦ false
+  | Reserved ↦ false
+]
+
+-- the speech modes of a codec, 0 to 7 or 0 to 8, as the bits of a number: bit m for mode m
+abbrev pub mode_bits : Codec → ℕ
+mode_bits Amr = 2 ^ 8 - 1
+mode_bits AmrWb = 2 ^ 9 - 1

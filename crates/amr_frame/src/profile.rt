@@ -1,5 +1,6 @@
 ghost use Rattle.std.specs.Prelude.{◌≡◌, ◌↔◌, IfErr, IsOk, None, Some, false};
 ghost use Rattle.amr_frame.specs.Profiles.{IsValid, profile_fault};
+ghost use Rattle.amr_frame.specs.Tables.{mode_bits};
 
 use crate::codec::Codec;
 use thiserror::Error;
@@ -20,6 +21,10 @@ pub struct Profile {
     pub interleaving: Option<u16>,
     /// The most blocks in a payload, from 1 to 64.
     pub max_blocks: u8,
+    /// Payloads that are read have to be canonical, with requests and speech of the modes alone.
+    pub strict: bool,
+    /// The speech modes that a strict format has: bit m stands for mode m of the codec.
+    pub modes: u16,
 }
 
 /// Why a format of payloads isn't valid, in the order in which the rules are tested.
@@ -37,10 +42,13 @@ pub enum ProfileFault {
     /// B4: the most blocks in a payload aren't from 1 to 64.
     #[error("the most blocks in a payload aren't from 1 to 64")]
     MaxBlocks,
+    /// B13: the modes are none, or others than those of the codec are among them.
+    #[error("the modes are none, or not all of the codec")]
+    Modes,
 }
 
 impl Profile {
-    /// The bandwidth-efficient format with up to 64 blocks in a payload.
+    /// The bandwidth-efficient format with up to 64 blocks in a payload, not strict, of all modes.
     pub fn plain(codec: Codec, channels: u8) -> Profile
         ensures { result ≡ record {
           codec = codec;
@@ -50,6 +58,8 @@ impl Profile {
           sorting = false;
           interleaving = None;
           max_blocks = 64;
+          strict = false;
+          modes = mode_bits codec;
         } }
     {
         Profile {
@@ -60,6 +70,8 @@ impl Profile {
             sorting: false,
             interleaving: None,
             max_blocks: 64,
+            strict: false,
+            modes: all_modes(codec),
         }
     }
 
@@ -80,6 +92,19 @@ impl Profile {
         if self.max_blocks == 0 || self.max_blocks > 64 {
             return Err(ProfileFault::MaxBlocks);
         }
+        if self.modes == 0 || self.modes > all_modes(self.codec) {
+            return Err(ProfileFault::Modes);
+        }
         Ok(())
+    }
+}
+
+/// The bits of all speech modes of a codec: modes 0 to 7, and 0 to 8.
+fn all_modes(codec: Codec) -> u16
+    ensures { result ≡ mode_bits codec }
+{
+    match codec {
+        Codec::Amr => 0x00FF,
+        Codec::AmrWb => 0x01FF,
     }
 }

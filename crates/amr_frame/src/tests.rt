@@ -157,7 +157,8 @@ fn a_profile_breaks_the_first_of_its_rules(rt: HostRuntime) {
         max_blocks: 0,
         ..plain
     };
-    let rows: [(Profile, Result<(), ProfileFault>); 19] = [
+    let wide = Profile::plain(Codec::AmrWb, 1);
+    let rows: [(Profile, Result<(), ProfileFault>); 25] = [
         (plain, Ok(())),
         (Profile::plain(Codec::AmrWb, 6), Ok(())),
         (
@@ -272,6 +273,44 @@ fn a_profile_breaks_the_first_of_its_rules(rt: HostRuntime) {
                 interleaving: None,
                 max_blocks: 0,
                 ..aligned
+            },
+            Err(ProfileFault::MaxBlocks),
+        ),
+        (
+            Profile {
+                strict: true,
+                modes: 0x80,
+                ..plain
+            },
+            Ok(()),
+        ),
+        (
+            Profile {
+                modes: 0x100,
+                ..wide
+            },
+            Ok(()),
+        ),
+        (Profile { modes: 0, ..plain }, Err(ProfileFault::Modes)),
+        (
+            Profile {
+                modes: 0x101,
+                ..plain
+            },
+            Err(ProfileFault::Modes),
+        ),
+        (
+            Profile {
+                modes: 0x200,
+                ..wide
+            },
+            Err(ProfileFault::Modes),
+        ),
+        (
+            Profile {
+                max_blocks: 0,
+                modes: 0,
+                ..plain
             },
             Err(ProfileFault::MaxBlocks),
         ),

@@ -5,6 +5,7 @@ use Rattle.std.proofs.lemmas.Bool.Decides.{nat_tests}
 use Rattle.amr_frame.specs.First.{when, first}
 use Rattle.amr_frame.specs.Profiles.{group_bound, is_empty_group, profile_fault}
 use Rattle.amr_frame.specs.declared.profile.ProfileFault.TheVariants as format_fault
+use Rattle.amr_frame.specs.Tables.{mode_bits}
 use Rattle.amr_playout.specs.declared.plan.PlanFault.TheVariants as fault
 use Rattle.amr_playout.specs.declared.plan.Plan.{Plan}
 use Rattle.amr_playout.specs.Plans.{IsPlan, most_together}
@@ -16,13 +17,13 @@ three None false true x y e = absurd cc
 three None true c x y e = absurd cc
 three (Some z) b c x y e = absurd cc
 
-four : {X : Type 0} (a b c d : Bool) (x y z w : X) → first (when a x ∷ when b y ∷ when c z ∷ when d w ∷ []) ≡ None
-    → (a ≡ false) × (d ≡ false)
-four false false false false x y z w e = (refl, refl)
-four false false false true x y z w e = absurd cc
-four false false true d x y z w e = absurd cc
-four false true c d x y z w e = absurd cc
-four true b c d x y z w e = absurd cc
+five : {X : Type 0} (a b c d e : Bool) (x y z w v : X)
+    → first (when a x ∷ when b y ∷ when c z ∷ when d w ∷ when e v ∷ []) ≡ None → (a ≡ false) × (d ≡ false)
+five false false false false e x y z w v n = (refl, refl)
+five false false false true e x y z w v n = absurd cc
+five false false true d e x y z w v n = absurd cc
+five false true c d e x y z w v n = absurd cc
+five true b c d e x y z w v n = absurd cc
 
 or_left : (a b : Bool) → (a || b) ≡ false → a ≡ false
 or_left false b e = refl
@@ -67,10 +68,11 @@ facts plan valid =
     let window = all.1 in
     let reach = all.2 in
     let ends =
-    four (nat_eq p.channels 0 || nat_lt 6 p.channels)
+    five (nat_eq p.channels 0 || nat_lt 6 p.channels)
     ((p.crc || p.sorting || is_some p.interleaving) && not p.octet_aligned) (is_empty_group p.interleaving)
-    (nat_eq p.max_blocks 0 || nat_lt 64 p.max_blocks) format_fault.Channels format_fault.NeedsAlignment
-    format_fault.Interleaving format_fault.MaxBlocks format in
+    (nat_eq p.max_blocks 0 || nat_lt 64 p.max_blocks) (nat_eq p.modes 0 || nat_lt (mode_bits p.codec) p.modes)
+    format_fault.Channels format_fault.NeedsAlignment format_fault.Interleaving format_fault.MaxBlocks
+    format_fault.Modes format in
     let channels = ends.0 in
     let most = ends.1 in
     let together =

@@ -53,19 +53,19 @@ lies_plain codec c m octets k e h =
     }
 
 -- an octet-aligned format whose octets aren't sorted, by what it leaves open
-abbrev unsorted : Codec → ℕ → Bool → Option ℕ → ℕ → Profile
-unsorted codec c crc group m = record { codec = codec; channels = c; octet_aligned = true; crc = crc; sorting = false; interleaving = group; max_blocks = m }
+abbrev unsorted : Codec → ℕ → Bool → Option ℕ → ℕ → Bool → ℕ → Profile
+unsorted codec c crc group m strict modes = record { codec = codec; channels = c; octet_aligned = true; crc = crc; sorting = false; interleaving = group; max_blocks = m; strict = strict; modes = modes }
 
-unsorted_is : (p : Profile) → p.octet_aligned ≡ true → p.sorting ≡ false → unsorted p.codec p.channels p.crc p.interleaving p.max_blocks ≡ p
-unsorted_is p a s = λ i. record { codec = p.codec; channels = p.channels; octet_aligned = sym a i; crc = p.crc; sorting = sym s i; interleaving = p.interleaving; max_blocks = p.max_blocks }
+unsorted_is : (p : Profile) → p.octet_aligned ≡ true → p.sorting ≡ false → unsorted p.codec p.channels p.crc p.interleaving p.max_blocks p.strict p.modes ≡ p
+unsorted_is p a s = λ i. record { codec = p.codec; channels = p.channels; octet_aligned = sym a i; crc = p.crc; sorting = sym s i; interleaving = p.interleaving; max_blocks = p.max_blocks; strict = p.strict; modes = p.modes }
 
 -- the octets of frame k
 pub octets_are : (p : Profile) (fts : List ℕ) (k : ℕ) → k < length fts → get_or (sizes_in p fts) k 0 ≡ octets_in p.codec (get_or fts k 0)
 octets_are p fts k h = get_or-map (octets_in p.codec) fts k 0 0 h
 
-lies_unsorted : (codec : Codec) (c : ℕ) (crc : Bool) (group : Option ℕ) (m : ℕ) (octets : List ℕ) (k : ℕ) → payload_refusal (unsorted codec c crc group m) octets ≡ None → k < entries (unsorted codec c crc group m) octets → Lies (unsorted codec c crc group m) octets k
-lies_unsorted codec c crc group m octets k e h =
-    let p = unsorted codec c crc group m in
+lies_unsorted : (codec : Codec) (c : ℕ) (crc : Bool) (group : Option ℕ) (m : ℕ) (strict : Bool) (modes : ℕ) (octets : List ℕ) (k : ℕ) → payload_refusal (unsorted codec c crc group m strict modes) octets ≡ None → k < entries (unsorted codec c crc group m strict modes) octets → Lies (unsorted codec c crc group m strict modes) octets k
+lies_unsorted codec c crc group m strict modes octets k e h =
+    let p = unsorted codec c crc group m strict modes in
     let fts = types p octets in
     let lens = sizes_in p fts in
     let front = checks_start p fts + checks_count p fts in
@@ -88,7 +88,7 @@ lies_unsorted codec c crc group m octets k e h =
 
 pub lies : (p : Profile) (octets : List ℕ) (k : ℕ) → IsValid p → p.sorting ≡ false → payload_refusal p octets ≡ None → k < entries p octets → Lies p octets k
 lies p octets k valid sorting none l = elim (either p.octet_aligned) [
-  | inl t ↦ subst (λ q. payload_refusal q octets ≡ None → k < entries q octets → Lies q octets k) (unsorted_is p t sorting) (λ e m. lies_unsorted p.codec p.channels p.crc p.interleaving p.max_blocks octets k e m) none l
+  | inl t ↦ subst (λ q. payload_refusal q octets ≡ None → k < entries q octets → Lies q octets k) (unsorted_is p t sorting) (λ e m. lies_unsorted p.codec p.channels p.crc p.interleaving p.max_blocks p.strict p.modes octets k e m) none l
   | inr t ↦ let h = plain_of p valid t in
       subst (λ q. payload_refusal q octets ≡ None → k < entries q octets → Lies q octets k) (plain_is p h) (λ e m. lies_plain p.codec p.channels p.max_blocks octets k e m) none l
 ]

@@ -7,7 +7,8 @@ use Rattle.media_laws.proofs.Numbers.{AreShort, IsValue, items_printed, list_val
 use Rattle.spec_media.specs.Params.{AreParameters, Parameters, Range, Modes, Row, Values, is_allowed, is_in, is_mode_number, rows}
 use Rattle.spec_media.specs.Pieces.{number_in}
 use Rattle.spec_media.specs.Printing.{mode_list, on, other_than_1, printed_value}
-use Rattle.spec_modes.specs.ModeSets.{IsModeSet, all_modes, has, is_mode}
+use Rattle.amr_frame.specs.Tables.{is_mode}
+use Rattle.spec_modes.specs.ModeSets.{IsModeSet, all_modes, has}
 
 -- a mode of the codec, with as few digits as a number may have
 abbrev IsShortMode : Codec → ℕ → Type 0

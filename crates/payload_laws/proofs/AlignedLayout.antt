@@ -133,10 +133,10 @@ pub taken_below : (octets : List ℕ) (c a n : ℕ) → AllByRecursion (λ o. o 
 taken_below octets c a zero h = tt
 taken_below octets c a (suc n) h = (octet_below octets (c + a) h, taken_below octets c (a + 1) n h)
 
-module _ (codec : Codec) (c : ℕ) (crc sorting : Bool) (group : Option ℕ) (m : ℕ) (octets : List ℕ) (some : 1 ≤ c) where
+module _ (codec : Codec) (c : ℕ) (crc sorting : Bool) (group : Option ℕ) (m : ℕ) (strict : Bool) (modes : ℕ) (octets : List ℕ) (some : 1 ≤ c) where
   -- the format, and where its table begins, in bits
   abbrev p : Profile
-  p = aligned codec c crc sorting group m
+  p = aligned codec c crc sorting group m strict modes
 
   abbrev start : ℕ
   start = cond (is_some group) 16 8

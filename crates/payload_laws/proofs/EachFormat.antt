@@ -21,18 +21,18 @@ pub not_refused : (p : Profile) (v : Value) (checks octets : List ℕ) → IsVal
     → IsPayload p v checks octets → payload_refusal p octets ≡ None
 not_refused p v checks octets valid h = either_way p
     (λ is. subst (λ q. IsPayload q v checks octets → payload_refusal q octets ≡ None) (aligned_is p is)
-    (aligned_accepted p.codec p.channels p.crc p.sorting p.interleaving p.max_blocks octets (channels_of p valid) v checks) h)
+    (aligned_accepted p.codec p.channels p.crc p.sorting p.interleaving p.max_blocks p.strict p.modes octets (channels_of p valid) v checks) h)
     (λ packed. subst (λ q. IsPayload q v checks octets → payload_refusal q octets ≡ None) (plain_is p (plain_of p valid packed))
-    (packed_accepted p.codec p.channels p.max_blocks octets (channels_of p valid) v checks) h)
+    (packed_accepted p.codec p.channels p.max_blocks p.strict p.modes octets (channels_of p valid) v checks) h)
 
 -- what isn't refused is in the grammar, with the value and the CRCs that are read, where these are octets
 in_grammar : (p : Profile) (octets : List ℕ) → IsValid p → AreOctets (checks_at p octets)
     → payload_refusal p octets ≡ None → IsPayload p (value_at p octets) (checks_at p octets) octets
 in_grammar p octets valid small none = either_way p
     (λ is. subst (λ q. AreOctets (checks_at q octets) → payload_refusal q octets ≡ None → IsPayload q (value_at q octets) (checks_at q octets) octets) (aligned_is p is)
-    (aligned_spelled p.codec p.channels p.crc p.sorting p.interleaving p.max_blocks octets (channels_of p valid)) small none)
+    (aligned_spelled p.codec p.channels p.crc p.sorting p.interleaving p.max_blocks p.strict p.modes octets (channels_of p valid)) small none)
     (λ packed. subst (λ q. payload_refusal q octets ≡ None → IsPayload q (value_at q octets) (checks_at q octets) octets) (plain_is p (plain_of p valid packed))
-    (packed_spelled p.codec p.channels p.max_blocks octets (channels_of p valid)) none)
+    (packed_spelled p.codec p.channels p.max_blocks p.strict p.modes octets (channels_of p valid)) none)
 
 -- the CRCs of octets are octets
 checks_small : (p : Profile) (octets : List ℕ) → AreOctets octets → AreOctets (checks_at p octets)

@@ -56,20 +56,20 @@ plain_of p valid packed =
     }
 
 -- a bandwidth-efficient format by what it leaves open
-abbrev pub plain : Codec → ℕ → ℕ → Profile
-plain codec channels most = record { codec = codec; channels = channels; octet_aligned = false; crc = false; sorting = false; interleaving = None; max_blocks = most }
+abbrev pub plain : Codec → ℕ → ℕ → Bool → ℕ → Profile
+plain codec channels most strict modes = record { codec = codec; channels = channels; octet_aligned = false; crc = false; sorting = false; interleaving = None; max_blocks = most; strict = strict; modes = modes }
 
 -- such a format is all that a valid one can be
-pub plain_is : (p : Profile) → IsPlain p → plain p.codec p.channels p.max_blocks ≡ p
-plain_is p h = λ i. record { codec = p.codec; channels = p.channels; octet_aligned = sym h.packed i; crc = sym h.crc i; sorting = sym h.sorting i; interleaving = sym h.interleaving i; max_blocks = p.max_blocks }
+pub plain_is : (p : Profile) → IsPlain p → plain p.codec p.channels p.max_blocks p.strict p.modes ≡ p
+plain_is p h = λ i. record { codec = p.codec; channels = p.channels; octet_aligned = sym h.packed i; crc = sym h.crc i; sorting = sym h.sorting i; interleaving = sym h.interleaving i; max_blocks = p.max_blocks; strict = p.strict; modes = p.modes }
 
 -- an octet-aligned format by what it leaves open
-abbrev pub aligned : Codec → ℕ → Bool → Bool → Option ℕ → ℕ → Profile
-aligned codec channels crc sorting group most = record { codec = codec; channels = channels; octet_aligned = true; crc = crc; sorting = sorting; interleaving = group; max_blocks = most }
+abbrev pub aligned : Codec → ℕ → Bool → Bool → Option ℕ → ℕ → Bool → ℕ → Profile
+aligned codec channels crc sorting group most strict modes = record { codec = codec; channels = channels; octet_aligned = true; crc = crc; sorting = sorting; interleaving = group; max_blocks = most; strict = strict; modes = modes }
 
 pub aligned_is : (p : Profile) → p.octet_aligned ≡ true
-    → aligned p.codec p.channels p.crc p.sorting p.interleaving p.max_blocks ≡ p
-aligned_is p e = λ i. record { codec = p.codec; channels = p.channels; octet_aligned = sym e i; crc = p.crc; sorting = p.sorting; interleaving = p.interleaving; max_blocks = p.max_blocks }
+    → aligned p.codec p.channels p.crc p.sorting p.interleaving p.max_blocks p.strict p.modes ≡ p
+aligned_is p e = λ i. record { codec = p.codec; channels = p.channels; octet_aligned = sym e i; crc = p.crc; sorting = p.sorting; interleaving = p.interleaving; max_blocks = p.max_blocks; strict = p.strict; modes = p.modes }
 
 -- a format is octet-aligned, or it isn't
 pub either_way : {X : Type 0} (p : Profile) → (p.octet_aligned ≡ true → X)

@@ -1,5 +1,5 @@
 -- Bandwidth-efficient payloads (RFC 4867, 4.3): what is in the grammar isn't refused, and what isn't refused is in the grammar.
-use Rattle.std.proofs.Common.{◌≡◌, ℕ, zero, suc, ◌+◌, ◌-◌, ◌*◌, ◌<◌, ◌≤◌, true, false, List, ◌++◌, length, map, take, get_or, sym, refl, ap, ◌∙◌, subst, arith, Some, None, append_assoc, sum}
+use Rattle.std.proofs.Common.{◌≡◌, ℕ, zero, suc, ◌+◌, ◌-◌, ◌*◌, ◌<◌, ◌≤◌, Bool, true, false, List, ◌++◌, length, map, take, get_or, sym, refl, ap, ◌∙◌, subst, arith, Some, None, append_assoc, sum}
 use Rattle.std.specs.List.{AllByRecursion, flat_map, range_with_len}
 use Rattle.std.proofs.lemmas.List.{length-map}
 use Rattle.std.proofs.lemmas.List.FromFn.{length-map-range_with_len}
@@ -51,10 +51,10 @@ length-marks codec v a =
 next : (k : ℕ) → 4 + suc k * 6 ≡ 4 + k * 6 + (6 + 0)
 next k = omega arith
 
-module _ (codec : Codec) (c m : ℕ) (octets : List ℕ) (some : 1 ≤ c) where
+module _ (codec : Codec) (c m : ℕ) (strict : Bool) (modes : ℕ) (octets : List ℕ) (some : 1 ≤ c) where
   -- the format
   abbrev p : Profile
-  p = plain codec c m
+  p = plain codec c m strict modes
 
   -- what is in the grammar has its table in the octets
   in_table : (v : Value) (checks : List ℕ) → IsPayload p v checks octets → InTable p v octets

@@ -1,6 +1,6 @@
 -- What the options of a command ask of a format, a receiver, a sender, a desk and an answer: this
 -- project's own. Defaults are taken from what is given, whatever the order of the words.
-use Rattle.std.specs.Prelude.{ℕ, max, min, Bool, ◌&&◌, nat_le, List, Option, Some, None, is_none, unwrap_or, option_map}
+use Rattle.std.specs.Prelude.{ℕ, max, min, Bool, false, ◌&&◌, nat_le, List, Option, Some, None, is_none, unwrap_or, option_map}
 use Rattle.std.specs.Result.{result_ok}
 use Rattle.amr_frame.specs.declared.codec.Codec.{Codec}
 use Rattle.amr_frame.specs.declared.profile.Profile.{Profile}
@@ -8,7 +8,7 @@ use Rattle.amr_frame.specs.Profiles.{group_bound, profile_fault}
 use Rattle.spec_media.specs.Params.{Parameters}
 use Rattle.spec_media.specs.Reading.{modes_of}
 use Rattle.spec_modes.specs.Desk.{DeskPlan}
-use Rattle.spec_modes.specs.ModeSets.{all_modes, greatest}
+use Rattle.spec_modes.specs.ModeSets.{all_modes, bits_for, greatest}
 use Rattle.spec_offer.specs.Answering.{Answering}
 use Rattle.spec_record.specs.Recording.{Recording}
 use Rattle.spec_sending.specs.declared.plan.SendPlan.{SendPlan}
@@ -27,6 +27,8 @@ format c given most p = record {
   sorting = p.sorting;
   interleaving = p.interleaving;
   max_blocks = most;
+  strict = false;
+  modes = bits_for (modes_or_all c p.modes);
 }
 
 -- the blocks of a group of media parameters, 0 where they have no groups

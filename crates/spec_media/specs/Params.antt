@@ -4,11 +4,12 @@ use Rattle.std.specs.Prelude.{◌≡◌, ◌≤◌, ◌<◌, ◌^◌, ℕ, Bool,
 use Rattle.std.specs.List.{list_all}
 use Rattle.std.specs.Str.{str_eq_ignore_ascii_case}
 use Rattle.amr_frame.specs.declared.codec.Codec.{Codec}
+use Rattle.amr_frame.specs.Tables.{is_mode}
 use Rattle.refusals.specs.Names.{param_name}
 use Rattle.refusals.specs.declared.param.Param.{Param}
 use Rattle.refusals.specs.declared.param.Param.TheVariants as param
 use Rattle.spec_media.specs.Pieces.{items, name_of, number_in}
-use Rattle.spec_modes.specs.ModeSets.{IsModeSet, is_mode}
+use Rattle.spec_modes.specs.ModeSets.{IsModeSet}
 
 -- the values that a parameter may have: a number in a range, or a list of speech modes of the codec
 pub data Values : Type 0 where

@@ -1,20 +1,9 @@
 -- Sets of speech modes (RFC 4867, 8.1 and 8.2, mode-set; the modes are those of 3GPP TS 26.101
 -- and TS 26.201). A set is given as the list of its modes, rising.
-use Rattle.std.specs.Prelude.{◌≡◌, ℕ, ◌/◌, ◌%◌, ◌^◌, ◌<◌, max, Bool, true, false, nat_eq, List, length, filter, fold}
+use Rattle.std.specs.Prelude.{◌≡◌, ℕ, ◌/◌, ◌%◌, ◌^◌, ◌<◌, max, Bool, nat_eq, List, length, filter, fold, map, sum}
 use Rattle.std.specs.List.{range_with_len, list_any, list_all}
 use Rattle.amr_frame.specs.declared.codec.Codec.{Codec}
-use Rattle.amr_frame.specs.declared.codec.Kind.TheVariants.{Speech, Sid, Lost, Empty, Reserved}
-use Rattle.amr_frame.specs.Tables.{kind_in}
-
--- whether a frame type of the codec is a speech mode
-abbrev pub is_mode : Codec → ℕ → Bool
-is_mode codec ft = elim (kind_in codec ft) [
-  | Speech ↦ true
-  | Sid ↦ false
-  | Lost ↦ false
-  | Empty ↦ false
-  | Reserved ↦ false
-]
+use Rattle.amr_frame.specs.Tables.{is_mode}
 
 -- all modes of the codec: 0 to 7 of AMR, 0 to 8 of AMR-WB
 abbrev pub all_modes : Codec → List ℕ
@@ -45,3 +34,7 @@ greatest modes = fold max 0 modes
 -- the modes that the bits of a number stand for: bit m for mode m
 abbrev pub modes_in : ℕ → List ℕ
 modes_in bits = filter (λ m. nat_eq (bits / 2 ^ m % 2) 1) (range_with_len 0 16)
+
+-- the number whose bits stand for modes
+abbrev pub bits_for : List ℕ → ℕ
+bits_for modes = sum (map (λ m. 2 ^ m) modes)

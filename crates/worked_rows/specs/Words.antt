@@ -26,6 +26,8 @@ packed = record {
   sorting = false;
   interleaving = None;
   max_blocks = 64;
+  strict = false;
+  modes = 255;
 }
 
 abbrev pub aligned : Profile

@@ -17,6 +17,7 @@ pub fn valid_formats()
     ensures b2 { profile_fault (record packed { crc = true }) ≡ Some fault.NeedsAlignment }
     ensures b3 { profile_fault (interleaved 0) ≡ Some fault.Interleaving }
     ensures b4 { profile_fault (record aligned { max_blocks = 65 }) ≡ Some fault.MaxBlocks }
+    ensures b13 { profile_fault (record packed { modes = 256 }) ≡ Some fault.Modes }
     ensures first_of_two { profile_fault (record packed { channels = 0; max_blocks = 0 })
         ≡ Some fault.Channels }
 {}

@@ -14,7 +14,7 @@ use Rattle.amr_cli.proofs.engine.run_engine.Goals as goal
 abbrev none : RecordJob
 none = record {
   plan = record {
-    profile = record { codec = Amr; channels = 0; octet_aligned = false; crc = false; sorting = false; interleaving = None; max_blocks = 0 };
+    profile = record { codec = Amr; channels = 0; octet_aligned = false; crc = false; sorting = false; interleaving = None; max_blocks = 0; strict = false; modes = 0 };
     window = 0;
     reach = 0;
   };
