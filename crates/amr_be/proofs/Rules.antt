@@ -53,9 +53,9 @@ record Rules (p : Profile) (octets : List ℕ) (n : ℕ) : Type 0 where
   pub none : 0 < length octets → table_refusal p 6 (bits_at octets 4 n) ≡ None → need p (types p octets) ≡ length octets → IsAccepted p octets
   pub size : (es : List Entry) → es ≡ toc_at p octets → need_by p.codec es ≡ need p (types p octets)
 
-module _ (codec : Codec) (c m : ℕ) (octets : List ℕ) (n : ℕ) (fits : 4 + n ≤ 8 * length octets) (enough : (4 + n ≡ 8 * length octets) ⊎ (3080 ≤ n)) (few : m * c ≤ 384) where
+module _ (codec : Codec) (c m : ℕ) (strict : Bool) (modes : ℕ) (octets : List ℕ) (n : ℕ) (fits : 4 + n ≤ 8 * length octets) (enough : (4 + n ≡ 8 * length octets) ⊎ (3080 ≤ n)) (few : m * c ≤ 384) where
   abbrev p : Profile
-  p = plain codec c m
+  p = plain codec c m strict modes
 
   abbrev bits : List Bool
   bits = bits_at octets 4 n
@@ -90,7 +90,7 @@ module _ (codec : Codec) (c m : ℕ) (octets : List ℕ) (n : ℕ) (fits : 4 + n
 -- the rules of each bandwidth-efficient format
 rules : (p : Profile) (octets : List ℕ) (n : ℕ) → IsValid p → p.octet_aligned ≡ false → 4 + n ≤ 8 * length octets → (4 + n ≡ 8 * length octets) ⊎ (3080 ≤ n) → p.max_blocks * p.channels ≤ 384 → Rules p octets n
 rules p octets n valid packed fits enough few =
-    subst (λ q. Rules q octets n) (plain_is p (plain_of p valid packed)) (rules_plain p.codec p.channels p.max_blocks octets n fits enough few)
+    subst (λ q. Rules q octets n) (plain_is p (plain_of p valid packed)) (rules_plain p.codec p.channels p.max_blocks p.strict p.modes octets n fits enough few)
 
 -- what is told of octets by a table that was read of the bits behind the header, and by the octets that it needs
 pub record Answers (p : Profile) (octets : List ℕ) (bits : List Bool) : Type 0 where

@@ -35,9 +35,9 @@ pub record Lies (p : Profile) (octets : List ℕ) (k : ℕ) : Type 0 where
   pub inside : first_bit p octets k + size p octets k ≤ 8 * length octets
   pub bits : bits_at octets (first_bit p octets k) (size p octets k) ≡ (get_or (value_at p octets).frames k no_data).bits
 
-lies_plain : (codec : Codec) (c m : ℕ) (octets : List ℕ) (k : ℕ) → payload_refusal (plain codec c m) octets ≡ None → k < entries (plain codec c m) octets → Lies (plain codec c m) octets k
-lies_plain codec c m octets k e h =
-    let p = plain codec c m in
+lies_plain : (codec : Codec) (c m : ℕ) (strict : Bool) (modes : ℕ) (octets : List ℕ) (k : ℕ) → payload_refusal (plain codec c m strict modes) octets ≡ None → k < entries (plain codec c m strict modes) octets → Lies (plain codec c m strict modes) octets k
+lies_plain codec c m strict modes octets k e h =
+    let p = plain codec c m strict modes in
     let fts = types p octets in
     let start = first_bit p octets k in
     let l = length_types p octets in
@@ -90,7 +90,7 @@ pub lies : (p : Profile) (octets : List ℕ) (k : ℕ) → IsValid p → p.sorti
 lies p octets k valid sorting none l = elim (either p.octet_aligned) [
   | inl t ↦ subst (λ q. payload_refusal q octets ≡ None → k < entries q octets → Lies q octets k) (unsorted_is p t sorting) (λ e m. lies_unsorted p.codec p.channels p.crc p.interleaving p.max_blocks p.strict p.modes octets k e m) none l
   | inr t ↦ let h = plain_of p valid t in
-      subst (λ q. payload_refusal q octets ≡ None → k < entries q octets → Lies q octets k) (plain_is p h) (λ e m. lies_plain p.codec p.channels p.max_blocks octets k e m) none l
+      subst (λ q. payload_refusal q octets ≡ None → k < entries q octets → Lies q octets k) (plain_is p h) (λ e m. lies_plain p.codec p.channels p.max_blocks p.strict p.modes octets k e m) none l
 ]
 
 -- the bits that stand there
