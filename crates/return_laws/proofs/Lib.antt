@@ -1,0 +1,17 @@
+pub mod Alike
+pub mod Copied
+pub mod Fitting
+pub mod Groups
+pub mod Heard
+pub mod Matching
+pub mod Pieces
+pub mod Plans
+pub mod Recorded
+pub mod Released
+pub mod Repaired
+pub mod Returned
+pub mod Sayable
+pub mod Sizes
+pub mod Sounding
+pub mod Spread
+pub mod Streamed
