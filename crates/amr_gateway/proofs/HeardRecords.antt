@@ -1,5 +1,5 @@
 -- What a record changes that is no packet of the session, and what a packet changes.
-use Rattle.std.proofs.Common.{◌≡◌, ℕ, ◌+◌, false, List, [], ◌∷◌, ◌++◌, length, ap, ◌∙◌, sym, subst, arith, Option, Some}
+use Rattle.std.proofs.Common.{◌≡◌, ℕ, false, List, [], ◌∷◌, ◌++◌, length, ap, ◌∙◌, sym, subst, arith, Option, Some}
 use Rattle.std.specs.Prelude.{OnErr, IfOk, Result, Ok, Err}
 use Rattle.amr_io.specs.declared.source.Failed.{Failed}
 use Rattle.amr_gateway.proofs.Bounds.{bounded_same}

@@ -6,5 +6,6 @@ pub mod Passing
 pub mod Plans
 pub mod Records
 pub mod Results
+pub mod Returned
 pub mod Tallying
 pub mod Texts

@@ -1,4 +1,5 @@
 pub mod Going
 pub mod Hearing
 pub mod Jobs
+pub mod Returning
 pub mod Tallies

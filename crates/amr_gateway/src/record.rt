@@ -1,6 +1,7 @@
 // Recording a packet log as a storage file.
 ghost use Rattle.std.specs.Prelude.{◌≡◌};
 ghost use Rattle.amr_gateway.specs.Jobs.{IsServed, recording_meaning};
+ghost use Rattle.amr_gateway.specs.Returning.{ReturnsWhatIsSent};
 ghost use Rattle.run_report.specs.Lines.{no_counts};
 ghost use Rattle.spec_run.specs.Meanings.{Works, work_of};
 
@@ -21,6 +22,10 @@ const GATHERED: usize = 65536;
 /// All memory is taken before the first read: the receiver has room for each channel of each frame time of the window, and no
 /// later packet is refused for memory. The run ends at the first fault of the input or the output; what it wrote then is a
 /// front of the file of the whole input. The counts are those of the records at each end but a fault and want of memory.
+///
+/// A log that was sent for blocks, in a format of the same payloads and with no packet left out, is
+/// recorded as the file of these blocks. So is what is left of it where packets carry consecutive
+/// blocks and each block is in a packet that is left.
 pub fn record_log<I: Source, O: Sink>(
     alloc: Global,
     job: &RecordJob,
@@ -30,6 +35,8 @@ pub fn record_log<I: Source, O: Sink>(
     requires served { IsServed job.now }
 
     ensures works { Works (recording_meaning job.now)
+        (work_of I.Source O.Sink input.old input.new output.old output.new result) }
+    ensures returns { ReturnsWhatIsSent job.now
         (work_of I.Source O.Sink input.old input.new output.old output.new result) }
     ensures memory { result.end ≡ RunEnd.OutOfMemory
         → (input.new ≡ input.old) × (output.new ≡ output.old) }

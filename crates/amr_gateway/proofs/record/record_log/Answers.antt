@@ -1,4 +1,5 @@
 use Rattle.std.proofs.Common.{◌≡◌, ◌∙◌, ℕ, subst, sym}
+use Rattle.amr_gateway.proofs.Returned.{returned}
 use Rattle.amr_gateway.specs.Jobs.{recording_of}
 use Rattle.amr_gateway.specs.Tallies.{counted_in_all}
 use Rattle.amr_gateway.specs.declared.job.RecordJob.{RecordJob}
@@ -26,3 +27,10 @@ returns-clause-works g c =
     let of_job = subst (λ (j : RecordJob). Works (record_meaning (recording_of j) (limit_of c.in-Ok-create.reader)) (work counted)) c.new-recorder.ensures.job as_run in
     let of_limit = subst (λ (n : ℕ). Works (record_meaning (recording_of c.args.job.now) n) (work counted)) c.in-Ok-create.ensures.limit of_job in
     subst (λ counts. Works (record_meaning (recording_of c.args.job.now) c.args.job.now.limit) (work counts)) (sym c.counts.ensures) of_limit
+
+pub returns-clause-returns : goal.returns-clause-returns
+returns-clause-returns g c =
+    let run = c.run_records-end in
+    let report : RunReport = record { end = run.result; counts = c.counts.result } in
+    let work = work_of g.I.Source g.O.Sink c.args.input.now run.new.input c.args.output.now c.output-1.given.0 report in
+    returned c.args.job.now work c.requires.served (returns-clause-works g c)
