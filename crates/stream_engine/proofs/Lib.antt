@@ -1,0 +1,7 @@
+pub mod Logged
+pub mod Told
+pub mod Ends
+pub mod Stops
+pub mod Goes
+pub mod Runs
+pub mod Came

@@ -1,0 +1,4 @@
+pub mod Jobs
+pub mod Sends
+pub mod Reading
+pub mod Progress
