@@ -1,0 +1,7 @@
+pub mod Fmtp
+pub mod Given
+pub mod Listed
+pub mod Named
+pub mod Parts
+pub mod Places
+pub mod Readings
