@@ -16,8 +16,10 @@ pub struct ModeDesk {
     codec: Codec,
     modes: ModeSet,
     neighbor: bool,
+    /// After how many steps the mode may change again, 1 or 2.
     period: u8,
     mode: u8,
+    /// The mode that it moves to.
     target: u8,
     /// How many steps were made since the last at which the mode might change, 0 where it may at the next.
     turn: u8,

@@ -13,7 +13,7 @@ use Rattle.media_params.proofs.Whole.{IsReadTo, kept, refused_at}
 use Rattle.media_params.specs.Fmtp.{parameters}
 use Rattle.media_params.specs.Given.{AreAllowed, Holds, at}
 use Rattle.media_params.specs.Parts.{parts_in}
-use Rattle.media_params.specs.Readings.{asks, is_number_at, number_at, parameters_at}
+use Rattle.media_params.specs.Readings.{asks, is_number_at, number_at, parameters_at, parameters_by}
 use Rattle.media_params.specs.declared.fmtp.Fmtp.{Fmtp}
 use Rattle.media_params.specs.declared.given.Given.{Given}
 use Rattle.refusals.specs.declared.media.FmtpRefusal.TheVariants as why
@@ -98,17 +98,7 @@ module _ (g : Given) (ps : List (List ℕ)) (h : Holds g ps) where
   asking = λ i. is_n param.Crc 1 i || is_n param.Sorting 1 i || is_some (numbers param.Interleaving i)
 
   built : (codec : Codec) → parameters_at codec g ≡ parameters_in codec ps
-  built codec = λ i. record {
-    octet_aligned = is_n param.OctetAlign 1 i || asking i;
-    modes = lists codec i;
-    period = unwrap_or (numbers param.Period i) 1;
-    capability = unwrap_or (numbers param.Capability i) 1;
-    neighbor = is_n param.Neighbor 1 i;
-    crc = is_n param.Crc 1 i;
-    sorting = is_n param.Sorting 1 i;
-    interleaving = numbers param.Interleaving i;
-    max_red = numbers param.MaxRed i;
-  }
+  built codec = λ i. parameters_by (λ p. numbers p i) (lists codec i)
 
 alone : {X : Type 0} (o : Option X) → first (o ∷ []) ≡ o
 alone None = refl

@@ -32,11 +32,11 @@ abbrev pub format_of : Fmtp → Codec → ℕ → ℕ → Profile
 format_of f codec channels max_blocks = record {
   codec = codec;
   channels = channels;
+  max_blocks = max_blocks;
+  modes = bits_of codec f.modes;
+  strict = false;
   octet_aligned = f.octet_aligned;
+  interleaving = f.interleaving;
   crc = f.crc;
   sorting = f.sorting;
-  interleaving = f.interleaving;
-  max_blocks = max_blocks;
-  strict = false;
-  modes = bits_of codec f.modes;
 }

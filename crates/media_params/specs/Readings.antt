@@ -23,30 +23,44 @@ pub record IsReading (codec : Codec) (text : List ℕ) (result : Result Fmtp Fmt
   pub answer : told result ≡ parameters_of codec text
   pub valid : IfOk result (λ f. AreParameters codec (parameters f))
 
--- the number that a parameter was given, and whether it is this one
-abbrev pub number_at : Given → Param → Option ℕ
-number_at g p = option_and_then (number_in 5) (at g p)
-
-abbrev pub is_number_at : Given → Param → ℕ → Bool
-is_number_at g p n = elim (number_at g p) [
+-- whether a parameter has this number, of the numbers of parameters
+abbrev pub has_number : (Param → Option ℕ) → Param → ℕ → Bool
+has_number number p n = elim (number p) [
   | None ↦ false
   | Some m ↦ nat_eq m n
 ]
 
--- whether what was given needs octet alignment
+-- whether these numbers need octet alignment
+abbrev pub need : (Param → Option ℕ) → Bool
+need number =
+    has_number number param.Crc 1 || has_number number param.Sorting 1
+    || is_some (number param.Interleaving)
+
+-- the parameters that have these numbers and modes
+abbrev pub parameters_by : (Param → Option ℕ) → Option (List ℕ) → Parameters
+parameters_by number modes = record {
+  octet_aligned = has_number number param.OctetAlign 1 || need number;
+  crc = has_number number param.Crc 1;
+  sorting = has_number number param.Sorting 1;
+  interleaving = number param.Interleaving;
+  modes = modes;
+  neighbor = has_number number param.Neighbor 1;
+  period = unwrap_or (number param.Period) 1;
+  capability = unwrap_or (number param.Capability) 1;
+  max_red = number param.MaxRed;
+}
+
+-- the number that a parameter was given, whether it is this one, and whether what was given needs
+-- octet alignment
+abbrev pub number_at : Given → Param → Option ℕ
+number_at g p = option_and_then (number_in 5) (at g p)
+
+abbrev pub is_number_at : Given → Param → ℕ → Bool
+is_number_at g p n = has_number (number_at g) p n
+
 abbrev pub asks : Given → Bool
-asks g = is_number_at g param.Crc 1 || is_number_at g param.Sorting 1 || is_some (number_at g param.Interleaving)
+asks g = need (number_at g)
 
 -- the parameters of what was given
 abbrev pub parameters_at : Codec → Given → Parameters
-parameters_at codec g = record {
-  octet_aligned = is_number_at g param.OctetAlign 1 || asks g;
-  modes = option_map (modes_of codec) (at g param.ModeSet);
-  period = unwrap_or (number_at g param.Period) 1;
-  capability = unwrap_or (number_at g param.Capability) 1;
-  neighbor = is_number_at g param.Neighbor 1;
-  crc = is_number_at g param.Crc 1;
-  sorting = is_number_at g param.Sorting 1;
-  interleaving = number_at g param.Interleaving;
-  max_red = number_at g param.MaxRed;
-}
+parameters_at codec g = parameters_by (number_at g) (option_map (modes_of codec) (at g param.ModeSet))
