@@ -1,6 +1,6 @@
 use crate::run::run_gateway;
 use crate::status::Status;
-use crate::test_logs::{RECORD, SEVEN, at, log_of, three_packets, words_of};
+use crate::test_logs::{HEAD, RECORD, SEVEN, STREAM, at, join, log_of, three_packets, words_of};
 use amr_io::{MemorySink, MemorySource};
 use std::alloc::Global;
 use std::process::Abort;
@@ -23,34 +23,72 @@ fn run_with(
     Ok((ended, output.octets().len(), told.octets().len()))
 }
 
-#[test]
-fn faults_leave_a_front_of_the_file(rt: HostRuntime) -> Result<(), Fail> {
-    let log = three_packets(rt.alloc())?;
-    let line = "record --codec AMR --window 3";
-    // A log of 110 octets: whatever read fails, the header is out, and nothing else has left the window.
-    for failing in 0..111u64 {
-        let (status, written, noted) = run_with(&rt, line, &log, &[failing], &[], &[])?;
+// What a run without a fault puts out, and what of it is out before the last read of all.
+#[derive(Clone, Copy)]
+struct Front {
+    early: usize,
+    late: usize,
+    whole: u64,
+    noted: usize,
+}
+
+// Compares what is out where each read and each write fails in turn, all octets being read and written one by one.
+fn expect_fronts(
+    rt: &(impl Abort + Alloc<A = Global>),
+    line: &str,
+    octets: &[u8],
+    front: &Front,
+) -> Result<(), Fail> {
+    let length = octets.len() as u64;
+    for failing in 0..length.saturating_add(1) {
+        let (status, written, noted) = run_with(rt, line, octets, &[failing], &[], &[])?;
+        let out = if failing < length {
+            front.early
+        } else {
+            front.late
+        };
         assert_eq!(rt; status, Status::ReadFault, "read {failing}");
-        assert_eq!(rt; written, 6usize, "read {failing}");
+        assert_eq!(rt; written, out, "read {failing}");
         assert_eq!(rt; noted, 11usize, "read {failing}");
     }
-    // A file of 74 octets, written one by one: the octets before the failing write are out.
-    for failing in 0..74u64 {
-        let (status, written, noted) = run_with(&rt, line, &log, &[], &[failing], &[])?;
+    for failing in 0..front.whole {
+        let (status, written, noted) = run_with(rt, line, octets, &[], &[failing], &[])?;
         assert_eq!(rt; status, Status::WriteFault, "write {failing}");
         assert_eq!(rt; written as u64, failing, "write {failing}");
         assert_eq!(rt; noted, 12usize, "write {failing}");
     }
     // Without a fault, and with notes that fail.
-    let (status, written, noted) = run_with(&rt, line, &log, &[], &[], &[])?;
+    let (status, written, noted) = run_with(rt, line, octets, &[], &[], &[])?;
     assert_eq!(rt; status, Status::Done);
-    assert_eq!(rt; written, 74usize);
-    assert_eq!(rt; noted, 73usize);
-    let (status, written, noted) = run_with(&rt, line, &log, &[], &[], &[0])?;
+    assert_eq!(rt; written as u64, front.whole);
+    assert_eq!(rt; noted, front.noted);
+    let (status, written, noted) = run_with(rt, line, octets, &[], &[], &[0])?;
     assert_eq!(rt; status, Status::WriteFault);
-    assert_eq!(rt; written, 74usize);
+    assert_eq!(rt; written as u64, front.whole);
     assert_eq!(rt; noted, 0usize);
     Ok(())
+}
+
+#[test]
+fn faults_leave_a_front_of_what_is_put_out(rt: HostRuntime) -> Result<(), Fail> {
+    // A log of 110 octets: whatever read fails, the header is out, and nothing else has left the window.
+    let log = three_packets(rt.alloc())?;
+    let recorded = Front {
+        early: 6,
+        late: 6,
+        whole: 74,
+        noted: 73,
+    };
+    expect_fronts(&rt, "record --codec AMR --window 3", &log, &recorded)?;
+    // A file of 38 octets: its packet is out once all of them are read.
+    let file = join(rt.alloc(), &[(HEAD, 0), (&[0x3C], 31)])?;
+    let sent = Front {
+        early: 0,
+        late: 46,
+        whole: 46,
+        noted: 19,
+    };
+    expect_fronts(&rt, STREAM, &file, &sent)
 }
 
 #[test]

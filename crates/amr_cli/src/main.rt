@@ -1,4 +1,4 @@
-//! Records packet logs of AMR and AMR-WB speech as storage files.
+//! Records packet logs of AMR and AMR-WB speech as storage files, and sends such files as packet logs.
 #![tactic(auto)]
 
 mod engine;
@@ -8,6 +8,8 @@ mod host;
 mod job;
 mod run;
 mod status;
+#[cfg(test)]
+mod stream_tests;
 #[cfg(test)]
 mod test_logs;
 #[cfg(test)]

@@ -74,5 +74,7 @@ pub fn words_of(alloc: Global, line: &str) -> Result<Vec<String>, AllocError> {
 
 pub const RECORD: &str = "record --codec AMR";
 
+pub const STREAM: &str = "stream --codec AMR";
+
 // The header of a file of AMR frames of one channel.
 pub const HEAD: &[u8] = b"#!AMR\n";

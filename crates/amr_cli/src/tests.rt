@@ -9,8 +9,8 @@ use std::test::Fail;
 // Room for the longest file here.
 const ROOM: usize = 46_000;
 
-// Runs these words over the log in pieces of each size, and compares the status, the file and the notes.
-fn expect(
+// Runs these words over the input in pieces of each size, and compares the status, what is put out and the notes.
+pub fn expect(
     rt: &(impl Abort + Alloc<A = Global>),
     line: &str,
     log: &[u8],
@@ -355,7 +355,7 @@ fn the_end_of_a_log_has_its_status(rt: HostRuntime) -> Result<(), Fail> {
 #[test]
 fn other_words_are_a_usage_fault(rt: HostRuntime) -> Result<(), Fail> {
     let log = log_of(rt.alloc(), &[at(0, 0, &[(&[0xF3, 0xC0], 30)])])?;
-    let lines: [&str; 12] = [
+    let lines: [&str; 20] = [
         "",
         "record",
         "record --codec",
@@ -368,6 +368,14 @@ fn other_words_are_a_usage_fault(rt: HostRuntime) -> Result<(), Fail> {
         "record --codec AMR --window 1 --max-blocks 2",
         "record --codec AMR --channels 7",
         "record --codec AMR --limit 00000000000007",
+        "stream",
+        "stream --codec AMR --window 3",
+        "stream --codec AMR --blocks 0",
+        "stream --codec AMR --blocks 65",
+        "stream --codec AMR --pt 128",
+        "stream --codec AMR --cmr 8",
+        "stream --codec AMR-WB --cmr 9",
+        "stream --codec AMR --length 1",
     ];
     for line in lines {
         expect(

@@ -12,3 +12,4 @@ mod tests;
 pub use job::RecordJob;
 pub use record::record_log;
 pub use run_report::{Counts, RunEnd, RunReport};
+pub use stream_engine::{StreamJob, stream_file};

@@ -19,12 +19,15 @@ pub struct Row {
 /// The command that writes a log of packets as a storage file.
 pub const RECORD: &str = "record";
 
+/// The command that writes a storage file as a log of packets.
+pub const STREAM: &str = "stream";
+
 /// The codec, which has to be given.
 pub const CODEC: Row = Row {
     name: "--codec",
     values: Values::Codecs,
     default: None,
-    commands: &[RECORD],
+    commands: &[RECORD, STREAM],
 };
 
 /// The frames of one block.
@@ -35,18 +38,17 @@ pub const CHANNELS: Row = Row {
         greatest: 6,
     },
     default: Some(1),
-    commands: &[RECORD],
+    ..CODEC
 };
 
-/// The one payload type that is read.
+/// The one payload type that is read, or that is sent. Its default depends on the command.
 pub const PT: Row = Row {
     name: "--pt",
     values: Values::Numbers {
         least: 0,
         greatest: 127,
     },
-    default: None,
-    commands: &[RECORD],
+    ..CODEC
 };
 
 /// The most octets that are read.
@@ -57,29 +59,7 @@ pub const LIMIT: Row = Row {
         greatest: 1_099_511_627_776,
     },
     default: Some(1_099_511_627_776),
-    commands: &[RECORD],
-};
-
-/// The window, in blocks.
-pub const WINDOW: Row = Row {
-    name: "--window",
-    values: Values::Numbers {
-        least: 1,
-        greatest: 4096,
-    },
-    default: Some(256),
-    commands: &[RECORD],
-};
-
-/// How many blocks ahead a packet may lie.
-pub const REACH: Row = Row {
-    name: "--reach",
-    values: Values::Numbers {
-        least: 1,
-        greatest: 45_000,
-    },
-    default: Some(45_000),
-    commands: &[RECORD],
+    ..CODEC
 };
 
 /// The most blocks in a payload. Its default depends on the window.
@@ -93,8 +73,81 @@ pub const MAX_BLOCKS: Row = Row {
     commands: &[RECORD],
 };
 
+/// The window, in blocks.
+pub const WINDOW: Row = Row {
+    name: "--window",
+    values: Values::Numbers {
+        least: 1,
+        greatest: 4096,
+    },
+    default: Some(256),
+    ..MAX_BLOCKS
+};
+
+/// How many blocks ahead a packet may lie.
+pub const REACH: Row = Row {
+    name: "--reach",
+    values: Values::Numbers {
+        least: 1,
+        greatest: 45_000,
+    },
+    default: Some(45_000),
+    ..MAX_BLOCKS
+};
+
+/// The source of the packets.
+pub const SSRC: Row = Row {
+    name: "--ssrc",
+    values: Values::Numbers {
+        least: 0,
+        greatest: 4_294_967_295,
+    },
+    default: Some(0),
+    commands: &[STREAM],
+};
+
+/// The timestamp of the first packet.
+pub const TS: Row = Row {
+    name: "--ts",
+    ..SSRC
+};
+
+/// The sequence number of the first packet.
+pub const SEQ: Row = Row {
+    name: "--seq",
+    values: Values::Numbers {
+        least: 0,
+        greatest: 65_535,
+    },
+    ..SSRC
+};
+
+/// The codec mode request of each packet.
+pub const CMR: Row = Row {
+    name: "--cmr",
+    values: Values::Numbers {
+        least: 0,
+        greatest: 15,
+    },
+    default: Some(15),
+    ..SSRC
+};
+
+/// The new blocks of a packet.
+pub const BLOCKS: Row = Row {
+    name: "--blocks",
+    values: Values::Numbers {
+        least: 1,
+        greatest: 64,
+    },
+    default: Some(1),
+    ..SSRC
+};
+
 /// All rows.
-const TABLE: [Row; 7] = [CODEC, CHANNELS, PT, LIMIT, WINDOW, REACH, MAX_BLOCKS];
+const TABLE: [Row; 12] = [
+    CODEC, CHANNELS, PT, LIMIT, WINDOW, REACH, MAX_BLOCKS, BLOCKS, CMR, SSRC, SEQ, TS,
+];
 
 impl Row {
     /// Whether a command may have this option with this value by this row.

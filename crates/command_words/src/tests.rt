@@ -1,4 +1,4 @@
-use crate::{Command, RecordWords, read_command};
+use crate::{Command, RecordWords, StreamWords, read_command};
 use amr_frame::Codec;
 use std::alloc::{AllocError, Global};
 use std::test::Fail;
@@ -11,6 +11,31 @@ const PLAIN: RecordWords = RecordWords {
     window: 256,
     reach: 45_000,
     max_blocks: 64,
+};
+
+const SENDING: StreamWords = StreamWords {
+    codec: Codec::Amr,
+    channels: 1,
+    pt: 96,
+    limit: 1_099_511_627_776,
+    blocks: 1,
+    cmr: 15,
+    ssrc: 0,
+    seq: 0,
+    ts: 0,
+};
+
+// Another value of each option.
+const OTHERS: StreamWords = StreamWords {
+    codec: Codec::AmrWb,
+    channels: 6,
+    limit: 4,
+    blocks: 64,
+    cmr: 8,
+    pt: 5,
+    ssrc: 4_294_967_295,
+    seq: 65_535,
+    ts: 1,
 };
 
 // What the words of a line ask, which stand between single spaces.
@@ -123,8 +148,45 @@ fn options_stand_in_any_order(rt: HostRuntime) -> Result<(), Fail> {
 }
 
 #[test]
+fn a_file_is_sent_as_the_options_say(rt: HostRuntime) -> Result<(), Fail> {
+    let rows = [
+        ("stream --codec AMR", SENDING),
+        (
+            "stream --codec AMR --pt 0",
+            StreamWords { pt: 0, ..SENDING },
+        ),
+        (
+            "stream --codec AMR --pt 127",
+            StreamWords { pt: 127, ..SENDING },
+        ),
+        (
+            "stream --codec AMR --cmr 0",
+            StreamWords { cmr: 0, ..SENDING },
+        ),
+        // Whether the codec has the mode isn't a question of the words.
+        (
+            "stream --codec AMR --cmr 14",
+            StreamWords { cmr: 14, ..SENDING },
+        ),
+        (
+            "stream --codec AMR --ts 9",
+            StreamWords { ts: 9, ..SENDING },
+        ),
+        (
+            "stream --ts 1 --seq 65535 --ssrc 4294967295 --cmr 8 --blocks 64 --limit 4 --pt 5 --channels 6 --codec AMR-WB",
+            OTHERS,
+        ),
+    ];
+    for (line, job) in rows {
+        let asked = read(rt.alloc(), line)?;
+        assert_eq!(rt; asked, Some(Command::Stream(job)), "of {line}");
+    }
+    Ok(())
+}
+
+#[test]
 fn other_words_give_no_job(rt: HostRuntime) -> Result<(), Fail> {
-    let lines: [&str; 37] = [
+    let lines: [&str; 52] = [
         "",
         "play --codec AMR",
         "Record --codec AMR",
@@ -162,6 +224,21 @@ fn other_words_give_no_job(rt: HostRuntime) -> Result<(), Fail> {
         "record --codec AMR --max-blocks 0",
         "record --codec AMR --max-blocks 65",
         "record --codec AMR  --pt 97",
+        "record --codec AMR --ts 0",
+        "streams --codec AMR",
+        "stream",
+        "stream --ts 0",
+        "stream --codec AMR --window 256",
+        "stream --codec AMR --reach 1",
+        "stream --codec AMR --max-blocks 64",
+        "stream --codec AMR --pt 128",
+        "stream --codec AMR --limit 0",
+        "stream --codec AMR --blocks 0",
+        "stream --codec AMR --blocks 65",
+        "stream --codec AMR --cmr 16",
+        "stream --codec AMR --ssrc 4294967296",
+        "stream --codec AMR --seq 65536",
+        "stream --codec AMR --seq 1 --seq 1",
     ];
     for line in lines {
         assert_eq!(rt; read(rt.alloc(), line)?, None, "of {line}");
