@@ -1,14 +1,16 @@
 # Completion of amrgate for bash: the command, the options that don't stand yet, and their values where they are few.
 _amrgate() {
-  local word=${COMP_WORDS[COMP_CWORD]} before=${COMP_WORDS[COMP_CWORD - 1]} name given left=()
+  local word=${COMP_WORDS[COMP_CWORD]} before=${COMP_WORDS[COMP_CWORD - 1]} name given names=() left=()
   COMPREPLY=()
   if ((COMP_CWORD == 1)); then
-    mapfile -t COMPREPLY < <(compgen -W "record --help --version" -- "$word")
+    mapfile -t COMPREPLY < <(compgen -W "record stream --help --version" -- "$word")
     return
   fi
-  if [ "${COMP_WORDS[1]}" != record ]; then
-    return
-  fi
+  case ${COMP_WORDS[1]} in
+    record) names=(--codec --channels --pt --window --reach --max-blocks --limit) ;;
+    stream) names=(--codec --channels --pt --blocks --cmr --ssrc --seq --ts --limit) ;;
+    *) return ;;
+  esac
   if ((COMP_CWORD % 2 == 1)); then
     case $before in
       --codec) left=(AMR AMR-WB) ;;
@@ -16,7 +18,7 @@ _amrgate() {
     esac
   else
     given=" ${COMP_WORDS[*]:2:COMP_CWORD-2} "
-    for name in --codec --channels --pt --window --reach --max-blocks --limit; do
+    for name in "${names[@]}"; do
       [[ $given == *" $name "* ]] || left+=("$name")
     done
   fi
