@@ -32,7 +32,8 @@ struct Front {
     noted: usize,
 }
 
-// Compares what is out where each read and each write fails in turn, all octets being read and written one by one.
+// Compares what is out where each read and each write fails in turn. Octets are read and written
+// one by one.
 fn expect_fronts(
     rt: &(impl Abort + Alloc<A = Global>),
     line: &str,

@@ -54,8 +54,8 @@ fn record_job(values: &RecordWords) -> Option<Job>
     }
 }
 
-/// Streaming as these values ask: each packet carries consecutive blocks, each block once, and none is left out. There is no
-/// job where their plan isn't valid.
+/// Streaming as these values ask: each packet carries consecutive blocks, each block once, and none
+/// is left out. There is no job where their plan isn't valid.
 fn stream_job(values: &StreamWords) -> Option<Job>
     requires within { AreSendable values.now }
 

@@ -1,4 +1,5 @@
-//! Records packet logs of AMR and AMR-WB speech as storage files, and sends such files as packet logs.
+//! Records packet logs of AMR and AMR-WB speech as storage files, and sends such files as packet
+//! logs.
 #![tactic(auto)]
 
 mod engine;

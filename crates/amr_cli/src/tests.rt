@@ -9,7 +9,8 @@ use std::test::Fail;
 // Room for the longest file here.
 const ROOM: usize = 46_000;
 
-// Runs these words over the input in pieces of each size, and compares the status, what is put out and the notes.
+// Runs these words over the input in pieces of each size, and compares the status, what is put out
+// and the notes.
 pub fn expect(
     rt: &(impl Abort + Alloc<A = Global>),
     line: &str,

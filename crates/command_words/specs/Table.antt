@@ -92,7 +92,8 @@ ts = from_zero (codes "--ts") 4294967295
 -- all rows
 abbrev pub table : List Row
 table =
-    codec ∷ channels ∷ pt ∷ limit ∷ window ∷ reach ∷ max_blocks ∷ blocks ∷ cmr ∷ ssrc ∷ seq ∷ ts ∷ []
+    codec ∷ channels ∷ pt ∷ limit ∷ window ∷ reach ∷ max_blocks
+    ∷ blocks ∷ cmr ∷ ssrc ∷ seq ∷ ts ∷ []
 
 -- a command takes the option of a row
 abbrev pub is_of : List ℕ → Row → Bool

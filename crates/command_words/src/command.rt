@@ -30,8 +30,8 @@ pub struct RecordWords {
     pub max_blocks: u8,
 }
 
-/// What the words ask of `stream`, each in the range of its option. Whether the codec has the mode that is requested isn't
-/// tested here.
+/// What the words ask of `stream`, each in the range of its option. Whether the codec has the mode
+/// that is requested isn't tested here.
 #[derive(Clone, Copy, Debug, PartialEq, Eq)]
 pub struct StreamWords {
     pub codec: Codec,
