@@ -1,0 +1,10 @@
+pub mod Begun
+pub mod Cuts
+pub mod FirstLine
+pub mod Firsts
+pub mod Maps
+pub mod MediaWords
+pub mod Numbers
+pub mod Saying
+pub mod Seen
+pub mod Telling
