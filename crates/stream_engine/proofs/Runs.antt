@@ -223,44 +223,37 @@ module _ {A B : Type 0} (i : source.Ghosts A) (o : sink.Ghosts B) where
       h.blocks h.valid refl h.stopped put
       (subst (λ e. FaultsOf e (read_from i first.input now.input) (sent_by o first.sink now.sink)) is faults)
 
-  pub write_did : (first now : State A B) (how : RunEnd) (counts : Counts) → how ≡ end.WriteFault
-      → After i o (start_of i o first) now how
-      → FaultsOf how (read_from i first.input now.input) (sent_by o first.sink now.sink)
-      → Did first now now.sink (record { end = end.WriteFault; counts = counts })
-  write_did first now how counts is after faults =
-      let start = start_of i o first in
-      write_works start.plan start.limit (work first now now.sink (record { end = end.WriteFault; counts = counts }))
-      refl (subst (After i o start now) is after)
-      (subst (λ e. FaultsOf e (read_from i first.input now.input) (sent_by o first.sink now.sink)) is faults)
+  -- a run stopped so, and met no fault
+  pub record Calmly (first now : State A B) (how : RunEnd) : Type 0 where
+    pub after : After i o (start_of i o first) now how
+    pub no_read : how ≢ end.ReadFault
+    pub no_write : how ≢ end.WriteFault
+    pub faults : FaultsOf how (read_from i first.input now.input) (sent_by o first.sink now.sink)
 
   pub closed_did : (first now : State A B) (how : RunEnd) (v : View) (to : GatherSink B) (blocks : ℕ)
-      → After i o (start_of i o first) now how → how ≢ end.ReadFault → how ≢ end.WriteFault
-      → FaultsOf how (read_from i first.input now.input) (sent_by o first.sink now.sink)
-      → SendsRest now.sender v (logical o.got now.sink) (logical o.got to) → to.gather.now.waiting ≡ []
-      → o.faults to.output.now ≡ o.faults now.sink.output.now → blocks ≡ now.sender.blocks
-      → Did first now to (report_of how blocks v.packets)
-  closed_did first now how v to blocks after no_read no_write faults rest none calm same =
+      → Calmly first now how → SendsRest now.sender v (logical o.got now.sink) (logical o.got to)
+      → to.gather.now.waiting ≡ [] → o.faults to.output.now ≡ o.faults now.sink.output.now
+      → blocks ≡ now.sender.blocks → Did first now to (report_of how blocks v.packets)
+  closed_did first now how v to blocks ran rest none calm same =
       let start = start_of i o first in
-      let h = halted_of start now how after no_write in
+      let h = halted_of start now how ran.after ran.no_write in
       let input = read_from i first.input now.input in
-      finished_works start.plan start.limit (work first now to (report_of how blocks v.packets)) h.blocks h.stopped no_read
-      (closed_put start now how v to h rest none) (closed_counts start now how v to blocks h rest same)
+      finished_works start.plan start.limit (work first now to (report_of how blocks v.packets)) h.blocks h.stopped
+      ran.no_read (closed_put start now how v to h rest none) (closed_counts start now how v to blocks h rest same)
       (faults_on how input input (sent_by o first.sink now.sink) (sent_by o first.sink to)
-      (record { before = refl; after = refl }) (record { before = refl; after = calm }) faults)
+      (record { before = refl; after = refl }) (record { before = refl; after = calm }) ran.faults)
 
   pub closing_did : (first now : State A B) (how : RunEnd) (to : GatherSink B) (counts : Counts)
-      → After i o (start_of i o first) now how → how ≢ end.ReadFault → how ≢ end.WriteFault
-      → FaultsOf how (read_from i first.input now.input) (sent_by o first.sink now.sink)
-      → SendsRestPart now.sender (logical o.got now.sink) (logical o.got to)
+      → Calmly first now how → SendsRestPart now.sender (logical o.got now.sink) (logical o.got to)
       → Grows (o.got now.sink.output.now) (o.got to.output.now)
       → Rose (o.faults now.sink.output.now) (o.faults to.output.now)
       → Did first now to (record { end = end.WriteFault; counts = counts })
-  closing_did first now how to counts after no_read no_write faults rest grown rose =
+  closing_did first now how to counts ran rest grown rose =
       let start = start_of i o first in
-      let h = halted_of start now how after no_write in
       let input = read_from i first.input now.input in
-      let calm = calm_at how input (sent_by o first.sink now.sink) no_read no_write faults in
+      let calm = calm_at how input (sent_by o first.sink now.sink) ran.no_read ran.no_write ran.faults in
       let failed = failed_on (sent_by o now.sink to) (sent_by o first.sink to)
       (record { before = calm.1; after = refl }) rose in
       write_works start.plan start.limit (work first now to (record { end = end.WriteFault; counts = counts })) refl
-      (closed_broke start now how to h no_read rest grown) (calm.0, failed)
+      (closed_broke start now how to (halted_of start now how ran.after ran.no_write) ran.no_read rest grown)
+      (calm.0, failed)

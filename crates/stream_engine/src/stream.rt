@@ -25,12 +25,12 @@ const MOST_CHANNELS: usize = 6;
 /// read, and sent as the job's plan says.
 ///
 /// All memory is taken before the first read; `OutOfMemory` comes only for want of it. `Done` comes
-/// where the whole file was read, `LimitReached` where it has more octets than the limit, and `File`
+/// where the whole file was read, `LimitReached` where it has more octets than the limit, `File`
 /// where it is refused: the whole blocks before are sent all the same. `ReadFault` comes only where
 /// the input's faults rose, `WriteFault` only where the output's did, and the run ends there. What
 /// waits is written before each read, so that at a read fault all is out that no further block
-/// changes. The counts are those of the blocks read and the packets sent, at each end but a fault and
-/// want of memory.
+/// changes. The counts are those of the blocks read and the packets sent, at each end but a fault
+/// and want of memory.
 pub fn stream_file<I: Source, O: Sink>(
     alloc: Global,
     job: &StreamJob,

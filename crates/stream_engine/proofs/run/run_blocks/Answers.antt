@@ -20,12 +20,18 @@ returns-in-Ok g c =
     let stop = c.send_blocks-stop in
     let now = state stop.new.sender stop.new.reader stop.new.input stop.new.sink in
     let closed = c.in-Ok.ensures in
-    let told = c.report-in-Ok.ensures ∙ ap (report_of g.I.Source g.O.Sink stop.result.end stop.result.blocks) c.packets-in-Ok.ensures.view in
+    let told = c.report-in-Ok.ensures
+    ∙ ap (report_of g.I.Source g.O.Sink stop.result.end stop.result.blocks) c.packets-in-Ok.ensures.view in
     record {
       works = subst (Did g.I.Source g.O.Sink first now c.close.new.sink) (sym told)
           (closed_did g.I.Source g.O.Sink first now stop.result.end c.close.new.sender c.close.new.sink stop.result.blocks
-          stop.ensures.after c.in_default.not-ReadFault c.in_default.not-WriteFault stop.ensures.faults closed.sent
-          closed.empty closed.step.cause (stop.ensures.blocks c.in_default.not-WriteFault));
+          (record {
+            after = stop.ensures.after;
+            no_read = c.in_default.not-ReadFault;
+            no_write = c.in_default.not-WriteFault;
+            faults = stop.ensures.faults;
+          })
+          closed.sent closed.empty closed.step.cause (stop.ensures.blocks c.in_default.not-WriteFault));
       never_memory = λ e. never_memory g.I.Source g.O.Sink (start_of g.I.Source g.O.Sink first) now stop.result.end
           stop.ensures.after (sym (ap (λ (r : RunReport). r.end) told) ∙ e);
       same = same_through g.O.Sink g.met.O.Sink.transitive c.args.sink.now now.sink c.close.new.sink stop.ensures.same
@@ -41,8 +47,13 @@ returns g c =
     let told = c.report-in-Err.ensures in
     record {
       works = subst (Did g.I.Source g.O.Sink first now c.close.new.sink) (sym told)
-          (closing_did g.I.Source g.O.Sink first now stop.result.end c.close.new.sink _ stop.ensures.after
-          c.in_default.not-ReadFault c.in_default.not-WriteFault stop.ensures.faults closed.part closed.step.same.grows
+          (closing_did g.I.Source g.O.Sink first now stop.result.end c.close.new.sink _
+          (record {
+            after = stop.ensures.after;
+            no_read = c.in_default.not-ReadFault;
+            no_write = c.in_default.not-WriteFault;
+            faults = stop.ensures.faults;
+          }) closed.part closed.step.same.grows
           closed.step.cause);
       never_memory = λ e. (let same : end.WriteFault ≡ end.OutOfMemory = sym (ap (λ (r : RunReport). r.end) told) ∙ e in
           absurd cc);

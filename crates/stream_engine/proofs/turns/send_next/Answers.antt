@@ -32,12 +32,12 @@ returns-in-Ok-clause-turned g c = λ start u may.
 
 pub returns-in-Err-clause-turned : goal.returns-in-Err-clause-turned
 returns-in-Err-clause-turned g c = λ start u may.
-    turn_broke g.I.Source g.O.Sink start
-    (state c.args.sender.now c.args.reader.now c.args.input.now c.args.sink.now)
-    (state c.send_block.new.sender c.next_block.new.self c.next_block.new.source c.send_block.new.output)
-    c.next_block.new.cells c.next_block.result (goes_on c.next_block.result (sym c.end_on.ensures ∙ c.in_default.is))
-    c.next_block.ensures.went_on c.next_block.ensures.left c.send_block.ensures.step.same.2 u
-    c.in-Err.ensures.part
+    let asked = c.next_block.ensures in
+    let ready = goes_on c.next_block.result (sym c.end_on.ensures ∙ c.in_default.is) in
+    let old = state c.args.sender.now c.args.reader.now c.args.input.now c.args.sink.now in
+    let new = state c.send_block.new.sender c.next_block.new.self c.next_block.new.source c.send_block.new.output in
+    turn_broke g.I.Source g.O.Sink start old new c.next_block.new.cells c.next_block.result ready asked.went_on asked.left
+    c.send_block.ensures.step.same.2 u c.in-Err.ensures.part
 
 pub returns-in-Ok-clause-counted : goal.returns-in-Ok-clause-counted
 returns-in-Ok-clause-counted g c = λ _.
