@@ -18,7 +18,7 @@ rtp_refusal_text rtp.Sources = codes "H3"
 rtp_refusal_text rtp.Extension = codes "H4"
 rtp_refusal_text rtp.Padding = codes "H5"
 
--- a refused payload: P1 to P10
+-- a refused payload: P1 to P13
 abbrev pub payload_refusal_text : PayloadRefusal → List ℕ
 payload_refusal_text why.Empty = codes "P1"
 payload_refusal_text why.HeaderShort = codes "P2"
@@ -35,3 +35,7 @@ payload_refusal_text (why.BodyShort need have) =
     codes "P9" ++ field (codes "need") need ++ field (codes "have") have
 payload_refusal_text (why.BodyLong need have) =
     codes "P10" ++ field (codes "need") need ++ field (codes "have") have
+payload_refusal_text (why.NotCanonical octet) = codes "P11" ++ field (codes "octet") octet
+payload_refusal_text (why.RequestOutside cmr) = codes "P12" ++ field (codes "cmr") cmr
+payload_refusal_text (why.ModeOutside entry ft) =
+    codes "P13" ++ field (codes "entry") entry ++ field (codes "ft") ft

@@ -4,4 +4,5 @@ pub mod Reading
 pub mod RobustOrder
 pub mod Rules
 pub mod Seen
+pub mod Strict
 pub mod Values

@@ -124,7 +124,7 @@ abbrev pub checks_at : Profile → List ℕ → List ℕ
 checks_at p octets = let fts = types p octets in
     map (λ k. slice_index octets (checks_start p fts + k)) (range_with_len 0 (checks_count p fts))
 
-abbrev answered : Option PayloadRefusal → Value → Result Value PayloadRefusal
+abbrev pub answered : Option PayloadRefusal → Value → Result Value PayloadRefusal
 answered None v = Ok v
 answered (Some r) v = Err r
 

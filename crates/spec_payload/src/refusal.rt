@@ -1,7 +1,8 @@
 use thiserror::Error;
 
 /// Why octets are no payload of a format (RFC 4867, 4.3 and 4.4), in the order in which the rules are tested.
-/// P4 to P6 are tested at each entry of the table of contents in turn, in this order at one entry.
+/// P4 to P6 are tested at each entry of the table of contents in turn, in this order at one entry. P11 to P13 are
+/// this project's own, of strict formats.
 #[derive(Clone, Copy, Debug, PartialEq, Eq, Error)]
 pub enum PayloadRefusal {
     /// P1: there is no octet.
@@ -34,4 +35,13 @@ pub enum PayloadRefusal {
     /// P10: the table needs fewer octets than there are.
     #[error("the payload needs {need} octets and has {have}")]
     BodyLong { need: usize, have: usize },
+    /// P11, in a strict format alone: the octets aren't the canonical ones of their value, from `octet` on.
+    #[error("octet {octet} isn't that of the canonical payload")]
+    NotCanonical { octet: usize },
+    /// P12, in a strict format alone: the codec mode request is neither 15 nor a mode of the format.
+    #[error("the codec mode request {cmr} is no mode of the format")]
+    RequestOutside { cmr: u8 },
+    /// P13, in a strict format alone: the speech frame of this entry has a mode that the format doesn't have.
+    #[error("entry {entry} has the type {ft}, which is no mode of the format")]
+    ModeOutside { entry: usize, ft: u8 },
 }

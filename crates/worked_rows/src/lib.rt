@@ -14,6 +14,6 @@ pub use frames::{
 };
 pub use logs::{counts_of_sessions, recordings_end, records_of_logs};
 pub use packets::{refused_headers, refused_places, whole_headers};
-pub use payloads::{canonical_payloads, refused_payloads, refused_tables};
+pub use payloads::{canonical_payloads, refused_payloads, refused_tables, strict_payloads};
 pub use recordings::{aligned_payloads, copies_and_order, packed_payloads, places_and_gaps};
 pub use storage::{headers, refused_files, stored_frames};

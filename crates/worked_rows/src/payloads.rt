@@ -3,6 +3,7 @@ ghost use Rattle.amr_bits.specs.Layout.{fits};
 ghost use Rattle.amr_frame.specs.declared.codec.Codec.TheVariants.{AmrWb};
 ghost use Rattle.spec_payload.specs.Grammar.{layout, text};
 ghost use Rattle.spec_payload.specs.Reading.{payload_refusal, value_at};
+ghost use Rattle.spec_payload.specs.Strict.{refusal_in};
 ghost use Rattle.spec_payload.specs.declared.refusal.PayloadRefusal.TheVariants as why;
 ghost use Rattle.std.specs.Prelude.{◌++◌, ◌∷◌, ◌≡◌, None, Some, [], true};
 ghost use Rattle.worked_rows.specs.Words.{aligned, interleaved, packed, seven, zeros};
@@ -51,4 +52,23 @@ pub fn canonical_payloads()
     ensures interleaved_text { text (interleaved 4)
         (value_at (interleaved 4) (0xF0 ∷ 0x11 ∷ 0xC4 ∷ 0x44 ∷ zeros 10))
         ≡ 0xF0 ∷ 0x11 ∷ 0xC4 ∷ 0x44 ∷ zeros 10 }
+{}
+
+/// What strict formats refuse besides, with what it names, and what they take; another format takes it all.
+pub fn strict_payloads()
+    ensures canonical { refusal_in (record packed { strict = true }) seven ≡ None }
+    ensures p11_pad { refusal_in (record packed { strict = true })
+        (0xF3 ∷ 0xC0 ∷ zeros 29 ++ 0x03 ∷ []) ≡ Some (why.NotCanonical 31) }
+    ensures p11_check { refusal_in (record aligned { crc = true; strict = true })
+        (0xF0 ∷ 0x3C ∷ 0x1C ∷ zeros 10 ++ 0x80 ∷ zeros 20) ≡ Some (why.NotCanonical 2) }
+    ensures p12 { refusal_in (record packed { strict = true }) (0x93 ∷ 0xC0 ∷ zeros 30)
+        ≡ Some (why.RequestOutside 9) }
+    ensures p11_before_p12 { refusal_in (record packed { strict = true })
+        (0x93 ∷ 0xC0 ∷ zeros 29 ++ 0x03 ∷ []) ≡ Some (why.NotCanonical 31) }
+    ensures p13 { refusal_in (record packed { strict = true; modes = 5 }) seven
+        ≡ Some (why.ModeOutside 0 7) }
+    ensures sid_of_few_modes { refusal_in (record packed { strict = true; modes = 5 })
+        (0xF4 ∷ 0x40 ∷ zeros 5) ≡ None }
+    ensures not_strict { refusal_in (record packed { modes = 5 })
+        (0x93 ∷ 0xC0 ∷ zeros 29 ++ 0x03 ∷ []) ≡ None }
 {}
