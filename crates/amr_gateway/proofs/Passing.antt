@@ -6,7 +6,7 @@ use Rattle.amr_gateway.specs.declared.heard.Heard.TheVariants.{Null, NoRtp, Othe
 use Rattle.spec_packet.specs.Rtp.{RtpPacket}
 use Rattle.spec_packet.specs.RtpReading.{rtp_of}
 use Rattle.spec_packet.specs.declared.refusal.RtpRefusal.{RtpRefusal}
-use Rattle.spec_payload.specs.Reading.{payload_refusal, read_as}
+use Rattle.spec_payload.specs.Strict.{refusal_in, taken_as}
 use Rattle.spec_payload.specs.Values.{Value}
 use Rattle.spec_payload.specs.declared.refusal.PayloadRefusal.{PayloadRefusal}
 use Rattle.spec_record.specs.RecordCounts.{is_null}
@@ -41,7 +41,7 @@ other_type_met r octets rtp n e a = record {
   packets_are = none_among r octets (rw e rw a refl);
 }
 
-pub no_payload_met : (r : Recording) (octets : List ℕ) (rtp : RtpPacket) (why : PayloadRefusal) → is_null octets ≡ false → rtp_of octets ≡ Ok rtp → is_asked r.asked rtp.payload_type ≡ true → payload_refusal r.profile rtp.payload ≡ Some why → Meets r octets false false false true 0
+pub no_payload_met : (r : Recording) (octets : List ℕ) (rtp : RtpPacket) (why : PayloadRefusal) → is_null octets ≡ false → rtp_of octets ≡ Ok rtp → is_asked r.asked rtp.payload_type ≡ true → refusal_in r.profile rtp.payload ≡ Some why → Meets r octets false false false true 0
 no_payload_met r octets rtp why n e a p = record {
   null_is = n;
   rtp_is = rw n rw e refl;
@@ -53,10 +53,10 @@ no_payload_met r octets rtp why n e a p = record {
 abbrev pub said_by : RtpPacket → Value → Packet
 said_by rtp v = record { ssrc = rtp.ssrc; sequence = rtp.sequence; timestamp = rtp.timestamp; value = v }
 
-pub packet_is : (r : Recording) (octets : List ℕ) (rtp : RtpPacket) (v : Value) → rtp_of octets ≡ Ok rtp → is_asked r.asked rtp.payload_type ≡ true → read_as r.profile rtp.payload ≡ Ok v → packet_of r.profile r.asked octets ≡ Some (said_by rtp v)
+pub packet_is : (r : Recording) (octets : List ℕ) (rtp : RtpPacket) (v : Value) → rtp_of octets ≡ Ok rtp → is_asked r.asked rtp.payload_type ≡ true → taken_as r.profile rtp.payload ≡ Ok v → packet_of r.profile r.asked octets ≡ Some (said_by rtp v)
 packet_is r octets rtp v e a read = rw e rw a rw read refl
 
-pub packet_met : (r : Recording) (octets : List ℕ) (rtp : RtpPacket) (v : Value) → is_null octets ≡ false → rtp_of octets ≡ Ok rtp → is_asked r.asked rtp.payload_type ≡ true → payload_refusal r.profile rtp.payload ≡ None → read_as r.profile rtp.payload ≡ Ok v → Meets r octets false false false false 1
+pub packet_met : (r : Recording) (octets : List ℕ) (rtp : RtpPacket) (v : Value) → is_null octets ≡ false → rtp_of octets ≡ Ok rtp → is_asked r.asked rtp.payload_type ≡ true → refusal_in r.profile rtp.payload ≡ None → taken_as r.profile rtp.payload ≡ Ok v → Meets r octets false false false false 1
 packet_met r octets rtp v n e a p read = record {
   null_is = n;
   rtp_is = rw n rw e refl;

@@ -25,7 +25,7 @@ use Rattle.spec_payload.specs.Seen.{seen}
 use Rattle.spec_payload.specs.Values.{Value, IsValue}
 
 -- the bits of the canonical octets are those that are written
-bits_are : (p : Profile) (v : Value) → IsValue p v → bits_of (text p v) ≡ map settled (layout p v (own_checks p v))
+pub bits_are : (p : Profile) (v : Value) → IsValue p v → bits_of (text p v) ≡ map settled (layout p v (own_checks p v))
 bits_are p v h = elim (either p.octet_aligned) [
   | inl aligned ↦ aligned_bits p v aligned h
   | inr packed ↦ packed_bits p v packed

@@ -1,10 +1,13 @@
 //! Payloads of AMR and AMR-WB frames in every format (RFC 4867, 4.3 and 4.4), read in place and written.
 #![tactic(auto)]
 
+mod compare;
 #[cfg(test)]
 mod cut_tests;
 mod laws;
+mod pad;
 mod read;
+mod strict;
 #[cfg(test)]
 mod tests;
 mod write;

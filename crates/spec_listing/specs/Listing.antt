@@ -11,7 +11,7 @@ use Rattle.spec_modes.specs.Desk.{DeskPlan, mode_after}
 use Rattle.spec_packet.specs.Rtp.{RtpPacket}
 use Rattle.spec_packet.specs.RtpReading.{rtp_of}
 use Rattle.spec_packet.specs.declared.refusal.RtpRefusal.{RtpRefusal}
-use Rattle.spec_payload.specs.Reading.{payload_refusal}
+use Rattle.spec_payload.specs.Strict.{refusal_in}
 use Rattle.spec_payload.specs.declared.refusal.PayloadRefusal.{PayloadRefusal}
 use Rattle.run_report.specs.Lines.{no_counts}
 use Rattle.run_report.specs.declared.report.CountLines.TheVariants as lines
@@ -51,7 +51,7 @@ payload_or_refusal l mode payload None = listed_payload l.profile l.bits mode pa
 -- the payload of a packet: another type than the asked one is told without looking at it
 abbrev payload_part : Listing → ℕ → RtpPacket → List ℕ
 payload_part l mode packet = cond (is_asked l.asked packet.payload_type)
-    (payload_or_refusal l mode packet.payload (payload_refusal l.profile packet.payload))
+    (payload_or_refusal l mode packet.payload (refusal_in l.profile packet.payload))
     (refused (codes "type"))
 
 abbrev packet_part : Listing → ℕ → Result RtpPacket RtpRefusal → List ℕ

@@ -6,7 +6,7 @@ use Rattle.run_report.specs.declared.counts.Counts.{Counts}
 use Rattle.spec_packet.specs.Rtp.{RtpPacket}
 use Rattle.spec_packet.specs.RtpReading.{rtp_of}
 use Rattle.spec_packet.specs.declared.refusal.RtpRefusal.{RtpRefusal}
-use Rattle.spec_payload.specs.Reading.{payload_refusal}
+use Rattle.spec_payload.specs.Strict.{refusal_in}
 use Rattle.spec_record.specs.Recording.{Recording}
 use Rattle.spec_segments.specs.Counts.{block_count, copy_count, late_count, refused_count}
 use Rattle.spec_session.specs.Packets.{is_asked, packets_of}
@@ -33,7 +33,7 @@ abbrev pub is_other_type : Option ℕ → List ℕ → Bool
 is_other_type asked octets = not (is_null octets) && has_other_type asked (rtp_of octets)
 
 abbrev has_no_payload : Profile → Option ℕ → Result RtpPacket RtpRefusal → Bool
-has_no_payload p asked (Ok packet) = is_asked asked packet.payload_type && is_some (payload_refusal p packet.payload)
+has_no_payload p asked (Ok packet) = is_asked asked packet.payload_type && is_some (refusal_in p packet.payload)
 has_no_payload p asked (Err why) = false
 
 -- a packet whose payload isn't one of the format

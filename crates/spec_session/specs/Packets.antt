@@ -5,7 +5,7 @@ use Rattle.amr_frame.specs.declared.profile.Profile.{Profile}
 use Rattle.spec_packet.specs.Rtp.{RtpPacket}
 use Rattle.spec_packet.specs.RtpReading.{rtp_of}
 use Rattle.spec_packet.specs.declared.refusal.RtpRefusal.{RtpRefusal}
-use Rattle.spec_payload.specs.Reading.{read_as}
+use Rattle.spec_payload.specs.Strict.{taken_as}
 use Rattle.spec_payload.specs.Values.{Value}
 use Rattle.spec_payload.specs.declared.refusal.PayloadRefusal.{PayloadRefusal}
 
@@ -31,7 +31,7 @@ with_value rtp (Ok v) = Some (record {
 with_value rtp (Err why) = None
 
 abbrev with_header : Profile → Option ℕ → Result RtpPacket RtpRefusal → Option Packet
-with_header p asked (Ok rtp) = cond (is_asked asked rtp.payload_type) (with_value rtp (read_as p rtp.payload)) None
+with_header p asked (Ok rtp) = cond (is_asked asked rtp.payload_type) (with_value rtp (taken_as p rtp.payload)) None
 with_header p asked (Err why) = None
 
 -- the packet that a record is, where it is well-formed

@@ -11,7 +11,7 @@ use Rattle.amr_io.specs.declared.source.Failed.{Failed}
 use Rattle.amr_playout.specs.Receiver.{View}
 use Rattle.amr_toc.specs.Viewed.{viewed}
 use Rattle.rtp_packet.specs.View.{packet}
-use Rattle.spec_payload.specs.Reading.{payload_refusal, read_as}
+use Rattle.spec_payload.specs.Strict.{refusal_in, taken_as}
 use Rattle.spec_record.specs.RecordCounts.{is_null}
 use Rattle.spec_session.specs.Packets.{is_asked, packet_of}
 use Rattle.amr_gateway.proofs.hear.hear.Goals as goal
@@ -72,7 +72,7 @@ no_payload : (g : Over) (c : goal.In_default-read_payload g) → Meets (recordin
 no_payload g c =
     no_payload_met (recording_of c.args.job.now) c.args.octets.now (packet c.in-Ok.rtp) c.in_default-read_payload.field-0 (some_octets c.args.octets.now (λ e. absurd (grind (arith, c.is_empty.ensures, c.if-is_empty.false, e)))) (sym c.in-Ok.ensures.reads)
     (ap (is_asked c.args.job.now.pt) (sym c.payload_type.ensures) ∙ sym c.is_asked.ensures ∙ c.if-not-is_asked.false)
-    (ap (payload_refusal c.args.job.now.plan.profile) (sym c.payload.ensures) ∙ c.in_default-read_payload.ensures.refused.first)
+    (ap (refusal_in c.args.job.now.plan.profile) (sym c.payload.ensures) ∙ c.in_default-read_payload.ensures.refused.first)
 
 pub returns-in_default-read_payload-clause-heard : goal.returns-in_default-read_payload-clause-heard
 returns-in_default-read_payload-clause-heard g c =
@@ -83,8 +83,8 @@ pub returns-in_default-read_payload-clause-step : goal.returns-in_default-read_p
 returns-in_default-read_payload-clause-step g c = still g.O.Sink g.met.O.Sink.reflexive c.args.receiver.now c.args.output.now _
 
 -- a packet of the session
-value : (g : Over) (c : goal.After-offer g) → read_as c.args.job.now.plan.profile (packet c.in-Ok.rtp).payload ≡ Ok (viewed c.in-Ok-read_payload.payload)
-value g c = ap (read_as c.args.job.now.plan.profile) (sym c.payload.ensures) ∙ c.in-Ok-read_payload.ensures.value.value
+value : (g : Over) (c : goal.After-offer g) → taken_as c.args.job.now.plan.profile (packet c.in-Ok.rtp).payload ≡ Ok (viewed c.in-Ok-read_payload.payload)
+value g c = ap (taken_as c.args.job.now.plan.profile) (sym c.payload.ensures) ∙ c.in-Ok-read_payload.ensures.value.value
 
 asked : (g : Over) (c : goal.After-offer g) → is_asked c.args.job.now.pt (packet c.in-Ok.rtp).payload_type ≡ true
 asked g c = ap (is_asked c.args.job.now.pt) (sym c.payload_type.ensures) ∙ sym c.is_asked.ensures ∙ c.if-not-is_asked.false
@@ -95,7 +95,7 @@ is_packet g c = packet_is (recording_of c.args.job.now) c.args.octets.now (packe
 of_session : (g : Over) (c : goal.After-offer g) → Meets (recording_of c.args.job.now) c.args.octets.now false false false false 1
 of_session g c =
     packet_met (recording_of c.args.job.now) c.args.octets.now (packet c.in-Ok.rtp) (viewed c.in-Ok-read_payload.payload) (some_octets c.args.octets.now (λ e. absurd (grind (arith, c.is_empty.ensures, c.if-is_empty.false, e)))) (sym c.in-Ok.ensures.reads) (asked g c)
-    (ap (payload_refusal c.args.job.now.plan.profile) (sym c.payload.ensures) ∙ c.in-Ok-read_payload.ensures.value.none) (value g c)
+    (ap (refusal_in c.args.job.now.plan.profile) (sym c.payload.ensures) ∙ c.in-Ok-read_payload.ensures.value.none) (value g c)
 
 pub returns-clause-heard : goal.returns-clause-heard
 returns-clause-heard g c = packet_heard c.args.job.now c.args.receiver.now c.args.octets.now _ _ _ (is_packet g c) c.offer.new.receiver c.offer.result (of_session g c) c.offer.ensures.offered
