@@ -13,7 +13,7 @@ pub enum Heard {
     NoRtp,
     /// It is a packet of another payload type than the asked one.
     OtherType,
-    /// Its payload isn't one of the format: P1 to P10.
+    /// Its payload isn't one of the format: P1 to P13.
     NoPayload,
     /// It has no place in the session: S1 to S3.
     NoPlace,

@@ -194,3 +194,52 @@ fn a_thousand_packets_in_threes_are_recorded_in_their_order(rt: HostRuntime) -> 
     }
     expect_file(&rt, aligned(false, false, None), &log, &wanted, 0)
 }
+
+// A strict format of one channel with these modes.
+fn strict(mut profile: Profile, modes: u16) -> Profile {
+    profile.strict = true;
+    profile.modes = modes;
+    profile
+}
+
+#[test]
+fn strict_formats_take_canonical_payloads_of_their_modes(rt: HostRuntime) -> Result<(), Fail> {
+    let plain = Profile::plain(Codec::Amr, 1);
+    let seven: Parts<'_> = &[(&[0xF3, 0xC0], 30)];
+    let sid: Parts<'_> = &[(&[0xF4, 0x40], 5)];
+    let padded: Parts<'_> = &[(&[0xF3, 0xC0], 29), (&[0x03], 0)];
+    let asked: Parts<'_> = &[(&[0x93, 0xC0], 30)];
+    let frame: (&[u8], u16) = (&[0x3C], 31);
+    let all = strict(plain, 0xFF);
+    let few = strict(plain, 5);
+    expect(&rt, all, &[(0, seven)], &[(HEAD, 0), frame], 0)?;
+    // A pad bit is set; mode 9 is asked for.
+    expect(&rt, all, &[(0, padded)], &[(HEAD, 0)], 1)?;
+    expect(&rt, all, &[(0, asked)], &[(HEAD, 0)], 1)?;
+    expect(
+        &rt,
+        plain,
+        &[(0, padded), (160, asked)],
+        &[(HEAD, 0), frame, frame],
+        0,
+    )?;
+    // Speech of mode 7 where the format has modes 0 and 2; a SID is no mode.
+    expect(&rt, few, &[(0, seven)], &[(HEAD, 0)], 1)?;
+    expect(&rt, few, &[(0, sid)], &[(HEAD, 0), (&[0x44], 5)], 0)?;
+    // A CRC that isn't the frame's.
+    let wrong: Parts<'_> = &[(&[0xF0, 0x3C, 0x1C], 10), (&[0x80], 20)];
+    let right: Parts<'_> = &[(&[0xF0, 0x3C, 0x1D], 10), (&[0x80], 20)];
+    let checked = strict(aligned(true, false, None), 0xFF);
+    expect(&rt, checked, &[(0, wrong)], &[(HEAD, 0)], 1)?;
+    expect(
+        &rt,
+        checked,
+        &[(0, right)],
+        &[(HEAD, 0), (&[0x3C], 10), (&[0x80], 20)],
+        0,
+    )?;
+    // Fill bits of a sorted payload: the last octet of the SID comes first.
+    let sorted = strict(aligned(false, true, None), 0xFF);
+    let filled: Parts<'_> = &[(&[0xF0, 0xC4, 0x44], 8), (&[0x01, 0x01], 0)];
+    expect(&rt, sorted, &[(0, filled)], &[(HEAD, 0)], 1)
+}

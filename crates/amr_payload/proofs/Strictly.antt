@@ -6,6 +6,9 @@ use Rattle.std.specs.List.{AllByRecursion, range_with_len}
 use Rattle.std.proofs.lemmas.Bool.{eqb-true}
 use Rattle.std.proofs.lemmas.List.{append-nil, at_drop_more, length-drop, take_all}
 use Rattle.amr_bits.specs.Bits.{AreOctets}
+use Rattle.amr_bits.specs.Layout.{settled}
+use Rattle.amr_bits.proofs.Filled.{filled-lt}
+use Rattle.amr_bits.proofs.Lists.{all_by}
 use Rattle.amr_frame.specs.declared.profile.Profile.{Profile}
 use Rattle.amr_frame.specs.First.{first, when}
 use Rattle.amr_frame.specs.Frames.{Frame, no_data}
@@ -17,7 +20,7 @@ use Rattle.amr_payload.proofs.Comparing.{all_dropped, found, own_front}
 use Rattle.amr_payload.specs.Checks.{own_checks}
 use Rattle.amr_oa.proofs.Pieces.{range_from}
 use Rattle.amr_payload.specs.Comparing.{differs_from, outside_in}
-use Rattle.amr_payload.specs.Taken.{IsInFormat, IsRefusedIn, IsTaken, Takes}
+use Rattle.amr_payload.specs.Taken.{HasModes, IsInFormat, IsRefusedIn, IsTaken, Takes}
 use Rattle.amr_toc.proofs.Marked.{either}
 use Rattle.amr_toc.proofs.Valued.{viewed_value}
 use Rattle.amr_toc.specs.declared.view.PayloadView.{PayloadView}
@@ -28,7 +31,7 @@ use Rattle.payload_laws.proofs.OneValue.{one_value, one_checks}
 use Rattle.payload_laws.specs.Seen.{IsSeenAs}
 use Rattle.spec_payload.specs.declared.refusal.PayloadRefusal.{PayloadRefusal}
 use Rattle.spec_payload.specs.declared.refusal.PayloadRefusal.TheVariants as why
-use Rattle.spec_payload.specs.Grammar.{IsPayload, text}
+use Rattle.spec_payload.specs.Grammar.{IsPayload, layout, text}
 use Rattle.spec_payload.specs.Reading.{answered, payload_refusal, read_as, value_at, checks_at}
 use Rattle.spec_payload.specs.Seen.{seen}
 use Rattle.spec_payload.specs.Strict.{IsStrict, first_difference, is_outside, mode_outside, not_canonical, refusal_in, request_outside, strict_refusal, taken_as, takes_request, takes_type}
@@ -181,9 +184,10 @@ taken_exactly p v octets valid small = elim (either p.strict) [
   | inl strict ↦ (to_strict p octets valid small strict v, from_strict p octets valid small strict v)
   | inr plain ↦
       let same : taken_as p octets ≡ read_as p octets = ap (λ o. answered o (seen p (value_at p octets) (checks_at p octets))) (plain_rules p octets plain) in
-      let exactly = read_exactly p v octets valid small in
-      (λ e. record { seen = exactly.0 (sym same ∙ e); strict = λ s. absurd (let b : true ≡ false = sym s ∙ plain in cc) },
-        λ h. same ∙ exactly.1 h.seen)
+      let exactly = read_exactly p v octets valid small in (
+        λ e. record { seen = exactly.0 (sym same ∙ e); strict = λ s. absurd (let b : true ≡ false = sym s ∙ plain in cc) },
+        λ h. same ∙ exactly.1 h.seen,
+      )
 ]
 
 -- what is taken in a strict format is the canonical payload of its value
@@ -270,3 +274,21 @@ module _ (p : Profile) (frames : List Frame) (at : ℕ) (h : OutsideFrom p frame
   outside_none l =
       let past : length frames - at ≡ 0 = omega arith in
       h.is ∙ ap (λ n. option_map told (find (is_outside p frames) (range_with_len at n))) past
+
+-- the canonical octets of a value are taken as it
+pub takes_written : (p : Profile) (v : Value) → IsValid p → IsValue p v → (p.strict ≡ true → HasModes p v) → IsTaken p (text p v) v
+takes_written p v valid h modes =
+    let small : AreOctets (text p v) = all_by (λ (o : ℕ). o < 256) (text p v) 0 (λ i l. filled-lt (map settled (layout p v (own_checks p v))) i) in
+    let told : taken_as p (text p v) ≡ Ok v = (taken_exactly p v (text p v) valid small).1 (record {
+      seen = record { value = v; checks = own_checks p v; payload = is_payload p v valid h; as_seen = seen_own p v };
+      strict = λ s. record { canonical = refl; request = (modes s).request; modes = (modes s).modes };
+    }) in
+    record { none = (taken_none p (text p v) v told).0; value = told }
+
+-- in a strict format a value has one payload
+pub one_payload : (p : Profile) (v w : Value) (octets others : List ℕ) → IsValid p → p.strict ≡ true → AreOctets octets → AreOctets others
+    → IsTaken p octets v → IsTaken p others w → (v ≡ w) ↔ (octets ≡ others)
+one_payload p v w octets others valid strict small less a b = (
+  λ e. canonical_text p v octets valid small strict a.value ∙ ap (text p) e ∙ sym (canonical_text p w others valid less strict b.value),
+  λ e. (let both : Ok v ≡ Ok w = sym a.value ∙ ap (taken_as p) e ∙ b.value in cc),
+)

@@ -191,7 +191,12 @@ fn compare_plain(profile: &Profile, view: &PayloadView<'_>, start: usize) -> Res
 }
 
 /// Compares the octets of frame `at` from an octet on.
-fn compare_frame(profile: &Profile, view: &PayloadView<'_>, at: usize, start: usize) -> Result<usize, usize>
+fn compare_frame(
+    profile: &Profile,
+    view: &PayloadView<'_>,
+    at: usize,
+    start: usize,
+) -> Result<usize, usize>
     requires payload { IsAligned profile.now view.now }
     requires frame { at < length (viewed view.now).frames }
     ensures { Compares (octets_of view.now) start (frame_part (frame_in (said view.now) at)) result }
@@ -222,7 +227,12 @@ fn compare_sorted(profile: &Profile, view: &PayloadView<'_>, start: usize) -> Re
 }
 
 /// Compares octet `octet` of each frame that has one, from an octet on.
-fn compare_row(profile: &Profile, view: &PayloadView<'_>, octet: usize, start: usize) -> Result<usize, usize>
+fn compare_row(
+    profile: &Profile,
+    view: &PayloadView<'_>,
+    octet: usize,
+    start: usize,
+) -> Result<usize, usize>
     requires { IsAligned profile.now view.now }
     ensures { Compares (octets_of view.now) start (row_part (said view.now).frames octet) result }
 {
@@ -237,7 +247,13 @@ fn compare_row(profile: &Profile, view: &PayloadView<'_>, octet: usize, start: u
 }
 
 /// Compares octet `octet` of frame `at`, where it has one.
-fn compare_one(profile: &Profile, view: &PayloadView<'_>, at: usize, octet: usize, place: usize) -> Result<usize, usize>
+fn compare_one(
+    profile: &Profile,
+    view: &PayloadView<'_>,
+    at: usize,
+    octet: usize,
+    place: usize,
+) -> Result<usize, usize>
     requires payload { IsAligned profile.now view.now }
     requires frame { at < length (viewed view.now).frames }
     ensures { Compares (octets_of view.now) place

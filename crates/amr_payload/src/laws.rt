@@ -1,8 +1,9 @@
-ghost use Rattle.std.specs.Prelude.{◌≡◌, List, false, length, ℕ};
-ghost use Rattle.amr_bits.specs.Bits.{bits_of};
+ghost use Rattle.std.specs.Prelude.{◌≡◌, ◌↔◌, List, false, length, true, ℕ};
+ghost use Rattle.amr_bits.specs.Bits.{AreOctets, bits_of};
 ghost use Rattle.amr_frame.specs.declared.profile.Profile.{Profile};
 ghost use Rattle.amr_frame.specs.Profiles.{IsValid};
 ghost use Rattle.amr_payload.specs.Checks.{own_checks};
+ghost use Rattle.amr_payload.specs.Taken.{HasModes, IsTaken};
 ghost use Rattle.amr_toc.specs.Cleared.{cleared};
 ghost use Rattle.amr_toc.specs.declared.view.PayloadView.{PayloadView};
 ghost use Rattle.amr_toc.specs.Told.{IsRead, IsRefused};
@@ -42,4 +43,18 @@ pub fn reads_what_was_written()
     ensures undamaged { (view : PayloadView) (v : Value) (k : ℕ) → IsValid (format_of view)
         → IsValue (format_of view) v → octets_of view ≡ text (format_of view) v
         → is_damaged view k ≡ false }
+{}
+
+/// The canonical octets of a value are read as it in each valid format; in a strict one, where what it requests and
+/// carries are modes of the format.
+pub fn takes_what_was_written()
+    ensures { (p : Profile) (v : Value) → IsValid p → IsValue p v
+        → (p.strict ≡ true → HasModes p v) → IsTaken p (text p v) v }
+{}
+
+/// In a strict format two payloads that are read have the same value exactly where they have the same octets.
+pub fn strict_values_have_one_payload()
+    ensures { (p : Profile) (v w : Value) (octets others : List ℕ) → IsValid p → p.strict ≡ true
+        → AreOctets octets → AreOctets others → IsTaken p octets v → IsTaken p others w
+        → (v ≡ w) ↔ (octets ≡ others) }
 {}

@@ -14,6 +14,9 @@ mod write;
 #[cfg(test)]
 mod write_tests;
 
-pub use laws::{reads_what_was_written, says_what_is_written, writes_what_is_said};
+pub use laws::{
+    reads_what_was_written, says_what_is_written, strict_values_have_one_payload,
+    takes_what_was_written, writes_what_is_said,
+};
 pub use read::read_payload;
 pub use write::{size_payload, write_payload};
