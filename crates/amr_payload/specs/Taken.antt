@@ -1,5 +1,5 @@
--- What is told of octets as a payload of a format, strict or not (RFC 4867, 4.3 and 4.4). Records, as
--- those of the rules that each format has.
+-- What is told of octets as a payload of a format, strict or not (RFC 4867, 4.3 and 4.4). Records,
+-- as those of the rules that each format has.
 use Rattle.std.specs.Prelude.{◌≡◌, ◌↔◌, ℕ, true, List, Some, None, Result, Ok, IfOk, IfErr}
 use Rattle.std.specs.List.{AllByRecursion}
 use Rattle.amr_frame.specs.declared.profile.Profile.{Profile}
@@ -22,8 +22,8 @@ pub record IsTaken (p : Profile) (octets : List ℕ) (v : Value) : Type 0 where
 pub record IsRefusedIn (p : Profile) (octets : List ℕ) (why : PayloadRefusal) : Type 0 where
   pub first : refusal_in p octets ≡ Some why
 
--- the grammar has them with this value, as it is seen; and in a strict format they are the canonical
--- payload of it, and what they request and carry are modes of the format
+-- the grammar has them with this value, as it is seen; and in a strict format they are the
+-- canonical payload of it, and what they request and carry are modes of the format
 pub record IsInFormat (p : Profile) (v : Value) (octets : List ℕ) : Type 0 where
   pub seen : IsSeenAs p v octets
   pub strict : p.strict ≡ true → IsStrict p v octets

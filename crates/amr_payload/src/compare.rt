@@ -199,7 +199,8 @@ fn compare_frame(
 ) -> Result<usize, usize>
     requires payload { IsAligned profile.now view.now }
     requires frame { at < length (viewed view.now).frames }
-    ensures { Compares (octets_of view.now) start (frame_part (frame_in (said view.now) at)) result }
+    ensures { Compares (octets_of view.now) start
+        (frame_part (frame_in (said view.now) at)) result }
 {
     let mut place = start;
     for octet in 0..octets_in(profile, view, at) {
