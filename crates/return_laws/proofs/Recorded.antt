@@ -11,7 +11,7 @@ use Rattle.record_reader.proofs.LogCut.{cut_one}
 use Rattle.return_laws.proofs.Alike.{alike_is, like}
 use Rattle.return_laws.proofs.Groups.{groups_parts}
 use Rattle.return_laws.proofs.Matching.{hears}
-use Rattle.return_laws.proofs.Pieces.{IsRun, all_left, pieces_run, run_parts}
+use Rattle.return_laws.proofs.Pieces.{all_left, pieces_run, run_parts}
 use Rattle.return_laws.proofs.Plans.{Facts, facts}
 use Rattle.return_laws.proofs.Released.{left_released, sent_released}
 use Rattle.return_laws.proofs.Repaired.{all_of, all_sent, portion_of, unnumbered_all}
@@ -103,6 +103,7 @@ all_heard r s b xs ok are takes k =
       plan = facts s are.plan;
       source = takes.source;
       valid = subst IsValid same ok.format;
+      lenient = takes.lenient;
       asked_is = takes.asked;
     } in
     ap (λ p. packets_of p r.asked (recorded s b xs)) same

@@ -1,5 +1,5 @@
 -- A packet that is sent is read as what a session goes by of it.
-use Rattle.std.proofs.Common.{◌≡◌, ℕ, suc, ◌<◌, ◌^◌, true, List, [], ◌∷◌, map, get_or, refl, ap, ◌∙◌, arith, Option, None, Some}
+use Rattle.std.proofs.Common.{◌≡◌, ℕ, suc, ◌<◌, ◌^◌, true, false, List, [], ◌∷◌, map, get_or, refl, ap, sym, ◌∙◌, arith, Option, Some}
 use Rattle.std.specs.Prelude.{filter_map, Ok}
 use Rattle.std.specs.List.{AllByRecursion, cons_option}
 use Rattle.amr_bits.proofs.Filled.{filled-lt}
@@ -8,8 +8,7 @@ use Rattle.amr_bits.specs.Layout.{settled}
 use Rattle.amr_frame.specs.Frames.{Frame}
 use Rattle.amr_frame.specs.Profiles.{IsValid}
 use Rattle.amr_frame.specs.declared.profile.Profile.{Profile}
-use Rattle.amr_payload.proofs.Again.{not_refused, read_again}
-use Rattle.amr_toc.proofs.Telling.{read_is}
+use Rattle.amr_payload.proofs.Strictly.{takes_written}
 use Rattle.return_laws.proofs.Alike.{like}
 use Rattle.return_laws.proofs.Plans.{Facts}
 use Rattle.rtp_packet.proofs.Spelled.{read_back}
@@ -18,28 +17,19 @@ use Rattle.rtp_packet.specs.Written.{written}
 use Rattle.spec_packet.specs.Rtp.{RtpPacket}
 use Rattle.spec_packet.specs.RtpReading.{rtp_of}
 use Rattle.spec_payload.specs.Grammar.{text, layout, check_of, checked}
-use Rattle.spec_payload.specs.Reading.{payload_refusal, read_as, value_at, checks_at}
-use Rattle.spec_payload.specs.Seen.{seen}
+use Rattle.spec_payload.specs.Strict.{taken_as}
 use Rattle.spec_payload.specs.Values.{IsValue, Value}
-use Rattle.spec_payload.specs.declared.refusal.PayloadRefusal.{PayloadRefusal}
 use Rattle.spec_sending.specs.Portions.{Portion}
 use Rattle.spec_sending.specs.Sending.{heard_of, packet_of, value_of}
 use Rattle.spec_sending.specs.declared.plan.SendPlan.{SendPlan}
 use Rattle.spec_session.specs.Packets.{is_asked, packets_of}
 use Rattle.spec_session.specs.Packets.{packet_of as heard_in}
 
--- what is written of a value is read as the value
-by_refusal : (p : Profile) (v : Value) (o : Option PayloadRefusal) → IsValid p → IsValue p v
-    → payload_refusal p (text p v) ≡ o → read_as p (text p v) ≡ Ok v
-by_refusal p v None valid h e =
-    let octets = text p v in
-    let w = seen p (value_at p octets) (checks_at p octets) in
-    let read : read_as p octets ≡ Ok w = read_is p p octets octets e refl refl in
-    read ∙ ap (λ x. Ok x) (read_again p v w valid h (record { none = e; value = read }))
-by_refusal p v (Some why) valid h e = absurd (not_refused p v why valid h (record { first = e }))
-
-read_written : (p : Profile) (v : Value) → IsValid p → IsValue p v → read_as p (text p v) ≡ Ok v
-read_written p v valid h = by_refusal p v (payload_refusal p (text p v)) valid h refl
+-- what is written of a value is taken as the value in a format that isn't strict
+taken_written : (p : Profile) (v : Value) → IsValid p → IsValue p v → p.strict ≡ false
+    → taken_as p (text p v) ≡ Ok v
+taken_written p v valid h lenient =
+    (takes_written p v valid h (λ strict. absurd (let both : true ≡ false = sym strict ∙ lenient in cc))).value
 
 -- its octets are octets
 octets_by_index : (xs : List ℕ) → ((k : ℕ) → get_or xs k 0 < 256) → AreOctets xs
@@ -52,7 +42,7 @@ text_octets p v =
 
 -- what a record is, step by step
 heard_from : (p : Profile) (asked : Option ℕ) (octets : List ℕ) (rtp : RtpPacket) (v : Value)
-    → rtp_of octets ≡ Ok rtp → is_asked asked rtp.payload_type ≡ true → read_as p rtp.payload ≡ Ok v
+    → rtp_of octets ≡ Ok rtp → is_asked asked rtp.payload_type ≡ true → taken_as p rtp.payload ≡ Ok v
     → heard_in p asked octets
     ≡ Some (record { ssrc = rtp.ssrc; sequence = rtp.sequence; timestamp = rtp.timestamp; value = v })
 heard_from p asked octets rtp v e f g = rw e (rw f (rw g refl))
@@ -73,6 +63,7 @@ pub record IsTaken (s : SendPlan) (q : Profile) (asked : Option ℕ) : Type 0 wh
   pub plan : Facts s
   pub source : s.ssrc < 2 ^ 32
   pub valid : IsValid (like s.profile q)
+  pub lenient : q.strict ≡ false
   pub asked_is : is_asked asked s.pt ≡ true
 
 heard_one : (s : SendPlan) (q : Profile) (asked : Option ℕ) (b : List (List Frame)) (x : ℕ × Portion)
@@ -81,7 +72,7 @@ heard_one : (s : SendPlan) (q : Profile) (asked : Option ℕ) (b : List (List Fr
 heard_one s q asked b x t h =
     heard_from (like s.profile q) asked (written (packet_of s b x)) (packet_of s b x) (value_of s b x.1)
     (read_back (packet_of s b x) (fields_fit s b x t.plan t.source)) t.asked_is
-    (read_written (like s.profile q) (value_of s b x.1) t.valid h)
+    (taken_written (like s.profile q) (value_of s b x.1) t.valid h t.lenient)
 
 -- and all of them
 pub heard_all : (s : SendPlan) (q : Profile) (asked : Option ℕ) (b : List (List Frame)) (xs : List (ℕ × Portion))
