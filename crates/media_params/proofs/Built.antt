@@ -1,5 +1,5 @@
 -- The parameters of what was given, and the answer at the end of a text.
-use Rattle.std.proofs.Common.{◌≡◌, ℕ, ◌+◌, ◌^◌, ◌<◌, ◌≤◌, Bool, true, false, not, cond, ◌&&◌, ◌||◌, nat_eq, List, [], ◌∷◌, ◌++◌, length, map, Option, Some, None, Ok, Err, IfSome, sym, refl, ap, ◌∙◌, arith, subst, leb-true, append-nil, option_map}
+use Rattle.std.proofs.Common.{◌≡◌, ℕ, ◌^◌, ◌<◌, ◌≤◌, Bool, true, false, not, ◌&&◌, ◌||◌, nat_eq, List, [], ◌∷◌, ◌++◌, length, Option, Some, None, IfSome, sym, refl, ap, ◌∙◌, arith, subst, leb-true, append-nil, option_map}
 use Rattle.std.specs.Prelude.{is_some, option_and_then}
 use Rattle.std.specs.Borrow.{Bor}
 use Rattle.std.specs.Option.{option_copied, unwrap_or}
@@ -19,7 +19,7 @@ use Rattle.media_params.specs.declared.given.Given.{Given}
 use Rattle.refusals.specs.declared.media.FmtpRefusal.TheVariants as why
 use Rattle.refusals.specs.declared.param.Param.{Param}
 use Rattle.refusals.specs.declared.param.Param.TheVariants as param
-use Rattle.spec_media.specs.Params.{AreParameters, Modes, Parameters, Range, is_allowed, is_in, needs_alignment, values_of}
+use Rattle.spec_media.specs.Params.{AreParameters, Modes, Range, is_allowed, is_in, needs_alignment, values_of}
 use Rattle.spec_media.specs.Pieces.{number_in, pieces, value_of}
 use Rattle.spec_media.specs.Reading.{answered, asks_alignment, given, is_given, modes_of, parameters_in, parameters_of, piece_of, refusal}
 use Rattle.spec_modes.specs.ModeSets.{IsModeSet}

@@ -4,3 +4,4 @@ pub mod Numbers
 pub mod Parts
 pub mod Whole
 pub mod Built
+pub mod Joined

@@ -1,7 +1,7 @@
 -- Texts cut at an octet, and without white at their ends.
-use Rattle.std.proofs.Common.{◌≡◌, ℕ, ◌+◌, ◌-◌, ◌<◌, ◌≤◌, Bool, true, false, not, nat_eq, List, [], ◌∷◌, length, take, drop, get_or, sym, refl, ap, ◌∙◌, arith, eq-eqb, take_all, Option, Some}
+use Rattle.std.proofs.Common.{◌≡◌, ℕ, ◌+◌, ◌-◌, ◌<◌, ◌≤◌, Bool, true, false, not, nat_eq, List, [], ◌∷◌, length, take, drop, get_or, sym, ap, ◌∙◌, arith, take_all, Option, Some}
 use Rattle.std.specs.Borrow.{Bor}
-use Rattle.std.specs.List.{All, after_first, before_first, position_or_len, prefix_len, slice_split, suffix_len}
+use Rattle.std.specs.List.{after_first, before_first, position_or_len, prefix_len, slice_split}
 use Rattle.std.proofs.lemmas.List.{drop_all, get_or_default}
 use Rattle.std.proofs.lemmas.List.Splits.{slice_split_first, slice_split_none}
 use Rattle.std.proofs.lemmas.List.Sums.{prefix_len_is, suffix_len_is}

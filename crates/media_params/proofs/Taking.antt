@@ -1,26 +1,24 @@
 -- What pieces give, piece by piece.
-use Rattle.std.proofs.Common.{◌≡◌, ℕ, zero, suc, ◌<◌, ◌≤◌, ◌⊎◌, inl, inr, Bool, true, false, not, cond, ◌&&◌, ◌||◌, nat_eq, List, [], ◌∷◌, ◌++◌, length, map, find, get_or, Option, Some, None, Ok, Err, sym, refl, ap, ◌∙◌, arith, subst, eq-eqb, eqb-true, ne_eqb, slice_index_or, slice_set, option_map}
+use Rattle.std.proofs.Common.{◌≡◌, ℕ, zero, suc, ◌<◌, inl, inr, Bool, true, false, not, cond, ◌||◌, nat_eq, List, [], ◌∷◌, ◌++◌, length, find, get_or, Option, Some, None, Ok, Err, sym, refl, ap, ◌∙◌, arith, subst, eqb-true, slice_set, option_map}
 use Rattle.std.specs.Prelude.{is_some}
 use Rattle.std.specs.Borrow.{Bor}
-use Rattle.std.specs.Bool.{Decides}
 use Rattle.std.specs.List.{AllByRecursion, list_all, list_any}
 use Rattle.std.specs.Option.{option_copied}
-use Rattle.std.specs.Str.{bytes_eq, str_eq_ignore_ascii_case, str_to_ascii_lowercase}
+use Rattle.std.specs.Str.{bytes_eq, str_to_ascii_lowercase}
 use Rattle.std.proofs.lemmas.Bool.{and_parts}
-use Rattle.std.proofs.lemmas.Bool.Decides.{eqb_tells, when_true}
+use Rattle.std.proofs.lemmas.Bool.Decides.{eqb_tells}
 use Rattle.std.proofs.lemmas.List.{get_or-set_other, get_or-set_same}
 use Rattle.std.proofs.lemmas.Slice.Eq.{bytes_eq-Decides}
 use Rattle.amr_frame.specs.First.{first, when}
 use Rattle.amr_frame.specs.declared.codec.Codec.{Codec}
 use Rattle.media_params.specs.Given.{AreAllowed, Holds, Takes, at}
 use Rattle.media_params.specs.Places.{place}
-use Rattle.media_params.specs.Named.{row_called}
 use Rattle.media_params.specs.declared.given.Given.{Given}
 use Rattle.refusals.specs.Names.{param_name}
 use Rattle.refusals.specs.declared.media.FmtpRefusal.TheVariants as why
 use Rattle.refusals.specs.declared.param.Param.{Param}
 use Rattle.refusals.specs.declared.param.Param.TheVariants as param
-use Rattle.spec_media.specs.Params.{Row, is_allowed, is_named, row_for, row_of, rows, values_of}
+use Rattle.spec_media.specs.Params.{is_allowed, is_named, row_for, row_of, rows, values_of}
 use Rattle.spec_media.specs.Pieces.{is_empty, name_of, value_of}
 use Rattle.spec_media.specs.Reading.{piece_of, piece_refusal, row_refusal, same_name}
 

@@ -1,16 +1,13 @@
 -- A whole text, part by part.
-use Rattle.std.proofs.Common.{◌≡◌, ℕ, zero, suc, ◌+◌, ◌<◌, ◌≤◌, ◌⊎◌, inl, inr, Bool, true, false, not, cond, ◌&&◌, ◌||◌, List, [], ◌∷◌, ◌++◌, length, map, filter, take, get_or, Option, Some, None, Ok, Err, Result, sym, refl, ap, ◌∙◌, arith, subst, append_assoc, append-nil, length-append, slice_index_or, option_map}
-use Rattle.std.specs.Borrow.{Bor}
+use Rattle.std.proofs.Common.{◌≡◌, ℕ, zero, suc, ◌+◌, ◌<◌, ◌≤◌, inl, inr, Bool, true, false, not, cond, List, [], ◌∷◌, ◌++◌, length, map, filter, take, Option, Some, None, Ok, Err, sym, refl, ap, ◌∙◌, arith, subst, append_assoc, length-append, slice_index_or}
 use Rattle.std.specs.List.{range_with_len, slice_split}
 use Rattle.std.proofs.lemmas.Bool.{cases_lt}
-use Rattle.std.proofs.lemmas.List.{take-append-le, take_all}
-use Rattle.amr_frame.specs.First.{first, when}
+use Rattle.std.proofs.lemmas.List.{take-append-le}
+use Rattle.amr_frame.specs.First.{first}
 use Rattle.amr_frame.specs.declared.codec.Codec.{Codec}
-use Rattle.media_params.specs.Given.{AreAllowed, Holds, Takes, TakesPart}
-use Rattle.media_params.specs.Parts.{parts_in}
+use Rattle.media_params.specs.Given.{AreAllowed, Holds, TakesPart}
 use Rattle.media_params.specs.declared.given.Given.{Given}
 use Rattle.refusals.specs.declared.media.FmtpRefusal.{FmtpRefusal}
-use Rattle.spec_media.specs.Params.{Parameters}
 use Rattle.spec_media.specs.Pieces.{is_empty, is_semicolon, pieces, trimmed}
 use Rattle.spec_media.specs.Reading.{answered, parameters_in, parameters_of, piece_refusal, refusal}
 

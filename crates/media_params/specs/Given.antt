@@ -1,5 +1,5 @@
 -- What pieces give of the parameters of the table.
-use Rattle.std.specs.Prelude.{◌≡◌, ℕ, true, false, List, ◌∷◌, [], ◌++◌, slice_index_or, Option, Some, None, Result, Err, Ok, option_map, option_and_then, IfOk, IfErr}
+use Rattle.std.specs.Prelude.{◌≡◌, ℕ, true, false, List, ◌∷◌, [], ◌++◌, slice_index_or, Option, Some, None, Result, Ok, option_map, IfOk, IfErr}
 use Rattle.std.specs.Option.{option_copied}
 use Rattle.amr_frame.specs.declared.codec.Codec.{Codec}
 use Rattle.media_params.specs.Places.{place}

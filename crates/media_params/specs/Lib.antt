@@ -1,4 +1,5 @@
 pub mod Fmtp
+pub mod Gathered
 pub mod Given
 pub mod Listed
 pub mod Named

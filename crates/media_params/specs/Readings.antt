@@ -1,5 +1,5 @@
 -- What reading media parameters gives.
-use Rattle.std.specs.Prelude.{◌≡◌, ℕ, ◌||◌, ◌&&◌, Bool, false, nat_eq, is_some, List, Option, Some, None, Result, Ok, Err, IfOk, option_map, option_and_then}
+use Rattle.std.specs.Prelude.{◌≡◌, ℕ, ◌||◌, Bool, false, nat_eq, is_some, List, Option, Some, None, Result, Ok, Err, IfOk, option_map, option_and_then}
 use Rattle.std.specs.Option.{unwrap_or}
 use Rattle.amr_frame.specs.declared.codec.Codec.{Codec}
 use Rattle.media_params.specs.Fmtp.{parameters}

@@ -1,14 +1,16 @@
-//! Media parameters of AMR and AMR-WB (RFC 4867, 8.1 and 8.2), read from a text.
+//! Media parameters of AMR and AMR-WB (RFC 4867, 8.1 and 8.2), read from a text and printed.
 #![tactic(auto)]
 
 mod fmtp;
 mod given;
 mod names;
 mod pieces;
+mod printing;
 mod reading;
 mod values;
 
 pub use fmtp::Fmtp;
+pub use printing::print_fmtp;
 pub use reading::read_fmtp;
 pub use refusals::{FmtpRefusal, Param};
 

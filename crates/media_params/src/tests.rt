@@ -1,5 +1,6 @@
-use crate::{Fmtp, FmtpRefusal, Param, read_fmtp};
+use crate::{Fmtp, FmtpRefusal, Param, print_fmtp, read_fmtp};
 use amr_frame::{Codec, Profile};
+use amr_io::{Failed, MemorySink};
 use amr_mode::ModeSet;
 use std::test::Fail;
 
@@ -81,7 +82,102 @@ fn wideband_has_a_mode_more(rt: HostRuntime) -> Result<(), Fail> {
 
 #[test]
 fn long_texts_are_read(rt: HostRuntime) -> Result<(), Fail> {
-    let text = [b';'; 65_536];
+    let mut text = [b';'; 65_536];
     assert_eq!(rt; read_fmtp(Codec::Amr, &text), Ok(PLAIN));
+    for place in 0..65_536 {
+        text[place] = b"crc;"[place % 4];
+    }
+    let bad = Err(FmtpRefusal::BadValue { param: Param::Crc });
+    assert_eq!(rt; read_fmtp(Codec::Amr, &text), bad);
+    Ok(())
+}
+
+#[test]
+fn texts_that_are_cut_are_read(rt: HostRuntime) -> Result<(), Fail> {
+    let text = b"crc=1; max-red=20";
+    let crc = Fmtp {
+        octet_aligned: true,
+        crc: true,
+        ..PLAIN
+    };
+    for len in 0..18 {
+        let wanted = match len {
+            0..=2 => Ok(PLAIN),
+            3..=4 => Err(FmtpRefusal::BadValue { param: Param::Crc }),
+            5..=13 => Ok(crc),
+            14..=15 => Err(FmtpRefusal::BadValue {
+                param: Param::MaxRed,
+            }),
+            16 => Ok(Fmtp {
+                max_red: Some(2),
+                ..crc
+            }),
+            _ => Ok(Fmtp {
+                max_red: Some(20),
+                ..crc
+            }),
+        };
+        assert_eq!(rt;
+            read_fmtp(Codec::Amr, &text[..len]),
+            wanted,
+            "of {len} octets"
+        );
+    }
+    Ok(())
+}
+
+const FULL: Fmtp = Fmtp {
+    octet_aligned: true,
+    modes: Some(ModeSet { bits: 0xA5 }),
+    period: 2,
+    capability: 2,
+    neighbor: true,
+    crc: true,
+    sorting: true,
+    interleaving: Some(30),
+    max_red: Some(0),
+};
+
+const FULL_TEXT: &str = "octet-align=1; mode-set=0,2,5,7; mode-change-period=2; \
+    mode-change-capability=2; mode-change-neighbor=1; crc=1; robust-sorting=1; interleaving=30; \
+    max-red=0";
+
+#[test]
+fn what_is_printed_is_read(rt: HostRuntime) -> Result<(), Fail> {
+    let wide = Fmtp {
+        modes: Some(ModeSet { bits: 0x111 }),
+        ..PLAIN
+    };
+    let most = Fmtp {
+        max_red: Some(65_535),
+        ..PLAIN
+    };
+    let rows = [
+        (PLAIN, ""),
+        (FULL, FULL_TEXT),
+        (wide, "mode-set=0,4,8"),
+        (most, "max-red=65535"),
+    ];
+    for (fmtp, wanted) in rows {
+        let mut sink = MemorySink::create(rt.alloc(), 999, 9, &[])?;
+        assert_eq!(rt; print_fmtp(&fmtp, &mut sink), Ok(()));
+        assert_eq!(rt; sink.octets(), wanted.as_bytes());
+        assert_eq!(rt; read_fmtp(Codec::AmrWb, sink.octets()), Ok(fmtp));
+    }
+    Ok(())
+}
+
+#[test]
+fn printing_fails_where_the_sink_does(rt: HostRuntime) -> Result<(), Fail> {
+    // The room of the sink, the number of the write that fails, and what was then written.
+    let rows: [(usize, u64, &[u8]); 3] = [(999, 0, b""), (999, 2, b"octet-"), (5, 9, b"octet")];
+    for (room, failing, wanted) in rows {
+        let mut sink = MemorySink::create(rt.alloc(), room, 3, &[failing])?;
+        assert_eq!(rt; print_fmtp(&FULL, &mut sink), Err(Failed));
+        assert_eq!(rt; sink.octets(), wanted);
+    }
+    // Nothing to print makes no call.
+    let mut sink = MemorySink::create(rt.alloc(), 0, 3, &[0])?;
+    assert_eq!(rt; print_fmtp(&PLAIN, &mut sink), Ok(()));
     Ok(())
 }

@@ -1,4 +1,4 @@
-use Rattle.std.proofs.Common.{◌≡◌, ◌∙◌, ◌+◌, ap, sym, arith, length, rules, true, get_or, nat_eq, ◌∷◌, take}
+use Rattle.std.proofs.Common.{◌∙◌, ◌+◌, sym, arith, rules, nat_eq, ◌∷◌, take}
 use Rattle.std.specs.List.{slice_split}
 use Rattle.std.proofs.lemmas.List.{take_rest}
 use Rattle.media_params.proofs.Parts.{back_is, front_is, nothing_behind, one_part, parts_are, whole_front}

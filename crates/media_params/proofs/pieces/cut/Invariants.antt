@@ -1,6 +1,5 @@
 use Rattle.std.proofs.Common.{nat_eq}
-use Rattle.media_params.proofs.Parts.{AllOf, NoneOf}
-use Rattle.spec_media.specs.Pieces.{is_white}
+use Rattle.media_params.proofs.Parts.{NoneOf}
 use Rattle.media_params.proofs.pieces.cut.Given as goal
 
 abbrev pub invariant-loop-place : goal.invariant-loop-place

@@ -1,4 +1,4 @@
-use Rattle.std.proofs.Common.{◌≡◌, ◌+◌, ◌-◌, arith, length, rules, false, get_or, ap, ◌∙◌}
+use Rattle.std.proofs.Common.{◌≡◌, ◌+◌, ◌-◌, arith, rules, false, get_or, ap, ◌∙◌}
 use Rattle.media_params.proofs.Parts.{end_is}
 use Rattle.spec_media.specs.Pieces.{is_white}
 use Rattle.media_params.proofs.pieces.trim_end.Goals as goal

@@ -1,5 +1,4 @@
-use Rattle.std.proofs.Common.{nat_eq}
-use Rattle.media_params.proofs.Parts.{AllOf, NoneOf}
+use Rattle.media_params.proofs.Parts.{AllOf}
 use Rattle.spec_media.specs.Pieces.{is_white}
 use Rattle.media_params.proofs.pieces.trim_start.Given as goal
 

@@ -1,4 +1,4 @@
-use Rattle.std.proofs.Common.{◌≡◌, ◌∙◌, sym, subst, Err, Ok, refl, ap, true, false}
+use Rattle.std.proofs.Common.{◌∙◌, sym, subst, Ok, ap, true, false}
 use Rattle.media_params.proofs.Built.{ends, valid_at}
 use Rattle.media_params.proofs.Parts.{left_at}
 use Rattle.media_params.proofs.Whole.{begun, refuses_part, takes_part}

@@ -1,4 +1,4 @@
-use Rattle.std.proofs.Common.{◌≡◌, ◌∙◌, ◌∷◌, List, ℕ, sym, subst, refl, true, false}
+use Rattle.std.proofs.Common.{◌≡◌, sym, subst, refl, true, false}
 use Rattle.std.specs.List.{slice_split}
 use Rattle.media_params.proofs.Listed.{all_read, ended, left_is, modes_read, none_read, not_read, read_more, set_read}
 use Rattle.media_params.specs.Listed.{HasMore}

@@ -1,4 +1,4 @@
-use Rattle.std.proofs.Common.{ℕ, List, length, Option}
+use Rattle.std.proofs.Common.{length}
 use Rattle.media_params.proofs.Listed.{IsRead}
 use Rattle.media_params.specs.Parts.{parts_in}
 use Rattle.media_params.proofs.values.read_modes.Given as goal

@@ -1,4 +1,4 @@
-use Rattle.std.proofs.Common.{◌≡◌, ◌∙◌, sym, true, rules}
+use Rattle.std.proofs.Common.{◌≡◌, ◌∙◌, true, rules}
 use Rattle.media_params.proofs.Numbers.{is_text, no_number, parsed}
 use Rattle.media_params.specs.Listed.{is_number}
 use Rattle.media_params.proofs.values.read_number.Goals as goal

@@ -1,4 +1,4 @@
-use Rattle.std.proofs.Common.{◌≡◌, ◌∙◌, ◌<◌, length, arith, ap, Some, None, slice_set, get_or}
+use Rattle.std.proofs.Common.{◌∙◌, arith, ap, Some, None, slice_set, get_or}
 use Rattle.std.specs.Option.{option_copied}
 use Rattle.media_params.proofs.Taking.{put_is}
 use Rattle.media_params.specs.Places.{place}

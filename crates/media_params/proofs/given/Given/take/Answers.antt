@@ -1,10 +1,10 @@
-use Rattle.std.proofs.Common.{◌≡◌, ◌∙◌, sym, ap, subst, rules, true, false, Some, None, option_map, cond, nat_eq}
+use Rattle.std.proofs.Common.{◌≡◌, ◌∙◌, sym, ap, subst, true, false, Some, None, option_map, cond, nat_eq}
 use Rattle.media_params.proofs.Taking.{is_given, takes_first, takes_no_second, takes_unknown}
 use Rattle.media_params.specs.Given.{at}
 use Rattle.media_params.specs.Places.{place}
 use Rattle.media_params.specs.Named.{row_called}
-use Rattle.spec_media.specs.Params.{is_allowed, row_for, row_of, values_of}
-use Rattle.spec_media.specs.Pieces.{is_empty, name_of, value_of}
+use Rattle.spec_media.specs.Params.{is_allowed, row_for, values_of}
+use Rattle.spec_media.specs.Pieces.{is_empty}
 use Rattle.media_params.proofs.given.Given.take.Goals as goal
 
 pub returns-in_default : goal.returns-in_default
