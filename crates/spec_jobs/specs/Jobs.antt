@@ -14,7 +14,7 @@ use Rattle.spec_stream.specs.Converting.{convert_meaning}
 use Rattle.spec_stream.specs.Streaming.{stream_meaning}
 use Rattle.spec_trial.specs.Trials.{Trial, trial_meaning}
 use Rattle.spec_words.specs.Given.{are_options, codec_at, number_at, number_or, number_or_default, parameters_at, text_at}
-use Rattle.spec_jobs.specs.Plans.{answering_of, desk_of, format, is_receivable, most_blocks, recording_of, sending_of}
+use Rattle.spec_jobs.specs.Plans.{answering_of, desk_of, is_receivable, most_blocks, received_format, recording_of, sending_of}
 use Rattle.spec_words.specs.Table as option
 use Rattle.spec_words.specs.Words.{Pair, pairs}
 
@@ -72,7 +72,7 @@ convert_job c given p =
     option_and_then (converted_by c given p) (parameters_at c option.to_fmtp given)
 
 abbrev list_job : Codec → List Pair → Parameters → Option Job
-list_job c given p = let f = format c given (number_or 64 option.max_blocks given) p in
+list_job c given p = let f = received_format c given (number_or 64 option.max_blocks given) p in
     where_valid (is_none (profile_fault f)) (ListLog (record {
       profile = f;
       asked = number_at option.pt given;

@@ -1,23 +1,22 @@
 -- What the options of a command ask of a format, a receiver, a sender, a desk and an answer: this
 -- project's own. Defaults are taken from what is given, whatever the order of the words.
-use Rattle.std.specs.Prelude.{ℕ, max, min, Bool, false, ◌&&◌, nat_le, List, Option, Some, None, is_none, unwrap_or, option_map}
-use Rattle.std.specs.Result.{result_ok}
+use Rattle.std.specs.Prelude.{ℕ, max, min, Bool, false, ◌&&◌, nat_le, List, Option, is_none, unwrap_or, option_map}
 use Rattle.amr_frame.specs.declared.codec.Codec.{Codec}
 use Rattle.amr_frame.specs.declared.profile.Profile.{Profile}
 use Rattle.amr_frame.specs.Profiles.{group_bound, profile_fault}
 use Rattle.spec_media.specs.Params.{Parameters}
 use Rattle.spec_media.specs.Reading.{modes_of}
 use Rattle.spec_modes.specs.Desk.{DeskPlan}
-use Rattle.spec_modes.specs.ModeSets.{all_modes, bits_for, greatest}
+use Rattle.spec_modes.specs.ModeSets.{bits_for, greatest}
 use Rattle.spec_offer.specs.Answering.{Answering}
 use Rattle.spec_record.specs.Recording.{Recording}
 use Rattle.spec_sending.specs.declared.plan.SendPlan.{SendPlan}
 use Rattle.spec_session.specs.Session.{rules_of}
-use Rattle.spec_words.specs.Given.{is_on, modes_or_all, number_at, number_or, number_or_default, text_at}
+use Rattle.spec_words.specs.Given.{is_on, modes_or_all, number_or, number_or_default, text_at}
 use Rattle.spec_words.specs.Table as option
 use Rattle.spec_words.specs.Words.{Pair}
 
--- the format of media parameters, with so many blocks in a payload
+-- the format of media parameters, with so many blocks in a payload; it isn't strict
 abbrev pub format : Codec → List Pair → ℕ → Parameters → Profile
 format c given most p = record {
   codec = c;
@@ -30,6 +29,11 @@ format c given most p = record {
   strict = false;
   modes = bits_for (modes_or_all c p.modes);
 }
+
+-- that of what is received: strict where the option says so
+abbrev pub received_format : Codec → List Pair → ℕ → Parameters → Profile
+received_format c given most p =
+    record (format c given most p) { strict = is_on option.strict given }
 
 -- the blocks of a group of media parameters, 0 where they have no groups
 abbrev pub group_of : Parameters → ℕ
@@ -45,7 +49,7 @@ most_blocks given p = number_or (min 64 (window_of given p)) option.max_blocks g
 
 -- what is recorded by media parameters, of this payload type or any
 abbrev pub recording_of : Codec → List Pair → Option ℕ → Parameters → Recording
-recording_of c given asked p = let f = format c given (most_blocks given p) p in record {
+recording_of c given asked p = let f = received_format c given (most_blocks given p) p in record {
   profile = f;
   asked = asked;
   rules = rules_of f (window_of given p) (number_or_default option.reach given);

@@ -1,12 +1,12 @@
 -- The options that are given behind a command: a look-up over the pairs, whatever their order. This
 -- project's own.
-use Rattle.std.specs.Prelude.{ℕ, Bool, false, ◌&&◌, ◌||◌, ◌%◌, nat_eq, List, [], length, Option, Some, None, is_some, is_none, option_and_then, option_map, unwrap_or, Result, Ok, Err, bytes_eq, codes}
+use Rattle.std.specs.Prelude.{ℕ, Bool, false, ◌&&◌, ◌||◌, ◌%◌, nat_eq, List, [], length, Option, Some, None, is_some, option_and_then, unwrap_or, bytes_eq, codes}
 use Rattle.std.specs.List.{list_all, list_any}
 use Rattle.std.specs.Result.{result_ok}
 use Rattle.amr_frame.specs.declared.codec.Codec.{Codec}
 use Rattle.spec_media.specs.Params.{Parameters, is_allowed}
 use Rattle.spec_media.specs.Params as media
-use Rattle.spec_media.specs.Reading.{modes_of, parameters_of}
+use Rattle.spec_media.specs.Reading.{parameters_of}
 use Rattle.spec_modes.specs.ModeSets.{all_modes, has}
 use Rattle.spec_words.specs.Numbers.{between, codec_named, number_of}
 use Rattle.spec_words.specs.Table.{Row, Values, Codecs, Numbers, OneMode, ModeLists, Shows, codec, fmtp, table}

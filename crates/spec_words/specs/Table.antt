@@ -101,6 +101,10 @@ abbrev pub max_blocks : Row
 max_blocks = row (codes "--max-blocks") (Numbers 1 64) None
     (record_name ∷ convert_name ∷ list_name ∷ [])
 
+-- whether the format of what is received is strict
+abbrev pub strict : Row
+strict = row (codes "--strict") (Numbers 0 1) (Some 0) (record_name ∷ convert_name ∷ list_name ∷ [])
+
 -- the most octets that are taken: up to 2^40, and up to 65,536 of an offer
 abbrev pub limit : Row
 limit = row (codes "--limit") (Numbers 1 1099511627776) (Some 1099511627776)
@@ -171,5 +175,5 @@ seed = row (codes "--seed") (Numbers 0 4294967295) (Some 0) (trial_name ∷ [])
 abbrev pub table : List Row
 table =
     codec ∷ channels ∷ fmtp ∷ to_fmtp ∷ pt ∷ to_pt ∷ window ∷ reach ∷ max_blocks
-    ∷ limit ∷ offer_limit ∷ blocks ∷ group ∷ repeat ∷ skip ∷ cmr ∷ ssrc ∷ ts ∷ seq
+    ∷ strict ∷ limit ∷ offer_limit ∷ blocks ∷ group ∷ repeat ∷ skip ∷ cmr ∷ ssrc ∷ ts ∷ seq
     ∷ show ∷ start ∷ modes ∷ crc ∷ sorting ∷ interleaving ∷ port ∷ count ∷ seed ∷ []

@@ -34,10 +34,13 @@ Gives line job = asks line ≡ Some job
 abbrev pub most : ℕ
 most = 1099511627776
 
+-- the format of AMR-WB that is packed, with its nine modes
+abbrev pub wide : Profile
+wide = record packed { codec = AmrWb; modes = 511 }
+
 -- the format of the long line of `convert`: what it receives, and what it sends
 abbrev pub wide_received : Profile
-wide_received = record packed {
-  codec = AmrWb;
+wide_received = record wide {
   channels = 2;
   octet_aligned = true;
   crc = true;

@@ -19,6 +19,8 @@ pub fn no_pairs()
         ∷ codes "record --pt 7 --codec AMR --pt 07" ∷ []) }
     ensures of_another_command { NoJobs (codes "record --codec AMR --blocks 2"
         ∷ codes "trial --codec AMR --count 0 --limit 9" ∷ []) }
+    ensures strict_sender { NoJobs (codes "stream --codec AMR --strict 0"
+        ∷ codes "trial --codec AMR --count 0 --strict 0" ∷ []) }
     ensures of_no_command { NoJob (codes "record --codec AMR --verbose 1") }
     ensures no_last_value { NoJob (codes "record --codec AMR --pt") }
 {}
@@ -30,6 +32,7 @@ pub fn no_numbers()
     ensures signed { NoJob (codes "record --codec AMR --channels +1") }
     ensures fourteen_digits { NoJob (codes "record --codec AMR --pt 00000000000007") }
     ensures too_great { NoJobs (codes "record --codec AMR --window 4097"
+        ∷ codes "record --codec AMR --strict 2"
         ∷ codes "answer --codec AMR --limit 65537" ∷ []) }
 {}
 
