@@ -5,12 +5,13 @@ use Rattle.std.proofs.lemmas.List.{length-append, length-map, take_all, append-n
 use Rattle.amr_bits.specs.Bits.{bits_at, filled, octets_for}
 use Rattle.amr_bits.specs.Layout.{Mark, padded, settled}
 use Rattle.amr_bits.proofs.Filled.{bits-whole, filled-front, filled-lt, gap, gap_fills, length-filled}
-use Rattle.amr_be.specs.Parts.{table_part, body_part}
+use Rattle.amr_be.specs.Parts.{body_part}
 use Rattle.amr_frame.specs.declared.codec.Codec.{Codec}
 use Rattle.amr_frame.specs.declared.profile.Profile.{Profile}
 use Rattle.amr_frame.specs.Cells.{frame_of}
 use Rattle.amr_frame.specs.Frames.{Frame, IsFrame}
 use Rattle.amr_toc.specs.declared.payload.Payload.{Payload}
+use Rattle.amr_toc.specs.Entries.{table_part}
 use Rattle.amr_toc.specs.Payloads.{CarriesInto, meant}
 use Rattle.amr_toc.proofs.Settled.{settled_fixed, settled_padded}
 use Rattle.amr_toc.proofs.Sizes.{most_bits}
@@ -43,7 +44,7 @@ pub text_is : (p : Profile) (v : Value) → p.octet_aligned ≡ false → text p
 text_is p v packed = ap filled (settled_layout p v (map (check_of p) (checked p v.frames)) packed) ∙ filled_whole (whole v)
 
 -- the table as it is written
-pub table_is : (frames : List Frame) → table_part frames ≡ table_bits frames
+pub table_is : (frames : List Frame) → table_part 6 frames ≡ table_bits frames
 table_is frames = ap (map settled) (table_fixed frames) ∙ settled_fixed (table_bits frames)
 
 -- how many octets a value has

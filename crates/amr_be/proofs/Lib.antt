@@ -1,5 +1,4 @@
 pub mod Again
 pub mod Canonical
-pub mod Counts
 pub mod Parts
 pub mod Rules

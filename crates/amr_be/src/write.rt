@@ -1,6 +1,6 @@
 ghost use Rattle.std.specs.Prelude.{◌≡◌, ◌+◌, ◌*◌, ◌^◌, ◌≤◌, ◌<◌, length};
 ghost use Rattle.amr_be.specs.Carried.{CarriesPacked, CarriesPackedInto};
-ghost use Rattle.amr_be.specs.Parts.{HaveTypes, body_part, table_part};
+ghost use Rattle.amr_be.specs.Parts.{body_part};
 ghost use Rattle.amr_frame.specs.Blocks.{frames_of};
 ghost use Rattle.amr_toc.specs.Behind.{WrittenBehind};
 ghost use Rattle.amr_toc.specs.Payloads.{IsSize, meant};
@@ -8,7 +8,7 @@ ghost use Rattle.spec_payload.specs.Grammar.{text};
 
 use amr_bits::BitWriter;
 use amr_frame::{Cell, Profile};
-use amr_toc::{Entry, Payload, entries_within, put_entry};
+use amr_toc::{Payload, entries_of, entries_within, write_toc};
 
 /// How many octets a bandwidth-efficient payload has.
 pub fn size_be(profile: &Profile, payload: &Payload<'_>) -> usize
@@ -38,30 +38,11 @@ pub fn write_be(profile: &Profile, payload: &Payload<'_>, out: &mut [u8])
     ensures { out.new ≡ text profile.now (meant payload.now) }
 {
     entries_within(profile);
+    let entries = entries_of(payload.cells);
     let mut at = BitWriter::new();
     at.put(out, payload.cmr as u32, 4);
-    put_table(payload.cells, &mut at, out);
+    write_toc(&entries, 6, &mut at, out);
     put_bodies(payload.cells, &mut at, out);
-}
-
-/// Writes the table of contents of cells behind the bits written.
-fn put_table(cells: &[Cell], at: &mut BitWriter, out: &mut [u8])
-    requires some { 1 ≤ length cells.now }
-    requires types { HaveTypes cells.now }
-    requires fits { at.old.written + 6 * length cells.now ≤ 8 * length out.old }
-    requires counts { at.old.written + 6 * length cells.now < 2 ^ 64 }
-    ensures written { at.new.written ≡ at.old.written + 6 * length cells.now }
-    ensures text { WrittenBehind out.old at.old.written (table_part (frames_of cells.now)) out.new
-        at.new.written }
-{
-    for k in 0..cells.len() {
-        let cell = &cells[k];
-        let entry = Entry {
-            ft: cell.ft,
-            q: cell.q,
-        };
-        put_entry(entry, k + 1 < cells.len(), 6, at, out);
-    }
 }
 
 /// Writes the bits of the frames of cells behind the bits written, and zeros up to a whole octet.

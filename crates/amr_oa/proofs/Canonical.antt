@@ -1,64 +1,29 @@
 -- The canonical octets of an octet-aligned payload, part by part.
-use Rattle.std.proofs.Common.{◌≡◌, ℕ, zero, suc, ◌+◌, ◌-◌, ◌*◌, ◌/◌, ◌%◌, ◌<◌, ◌≤◌, Bool, true, false, cond, ltb, nat_eq, List, [], ◌∷◌, ◌++◌, length, map, take, drop, replicate, get_or, sym, refl, ap, subst, ◌∙◌, arith, Option, Some, None}
+use Rattle.std.proofs.Common.{◌≡◌, ℕ, zero, suc, ◌+◌, ◌*◌, ◌<◌, ◌≤◌, Bool, true, false, cond, ltb, List, [], ◌∷◌, ◌++◌, length, map, take, drop, replicate, get_or, sym, refl, ap, subst, ◌∙◌, arith, Option, Some, None}
 use Rattle.std.specs.Prelude.{◌&&◌, is_some, flat_map, filter, sum}
-use Rattle.std.specs.List.{AllByRecursion, range_with_len}
+use Rattle.std.specs.List.{range_with_len}
 use Rattle.std.proofs.lemmas.Bool.{ltb-true}
-use Rattle.std.proofs.lemmas.List.{length-map, length-append, map-append, take-map, drop-map, append-nil, append_assoc, take_all}
+use Rattle.std.proofs.lemmas.List.{length-map, length-append, length-take-le, map-append, take-map, drop-map, take-append-drop, append-nil, append_assoc, take_all}
 use Rattle.std.proofs.lemmas.List.FromFn.{get_or-map-range_with_len}
 use Rattle.std.proofs.lemmas.List.Concat.{flat_map-append}
 use Rattle.std.proofs.lemmas.List.Sums.{sum_by-cons}
 use Rattle.amr_bits.specs.Bits.{AreOctets, nat, bits_of, bits_at, part, filled, octets_for}
 use Rattle.amr_bits.specs.Layout.{Mark, fixed, free, padded, settled}
 use Rattle.amr_bits.proofs.Filled.{octet_of, filled-front, gap, length-filled}
-use Rattle.amr_bits.proofs.Runs.{run-all, run-is_part, run-octet}
-use Rattle.amr_frame.specs.declared.codec.Codec.{Codec}
+use Rattle.amr_bits.proofs.Runs.{run-all, run-append, run-is_part, run-octet}
 use Rattle.amr_frame.specs.declared.profile.Profile.{Profile}
 use Rattle.amr_frame.specs.Cells.{frame_of}
-use Rattle.amr_frame.specs.Frames.{Frame, IsFrame, no_data}
-use Rattle.amr_frame.specs.Profiles.{group_bound}
+use Rattle.amr_frame.specs.Frames.{Frame, no_data}
 use Rattle.amr_guard.proofs.Rows.{length-robust}
-use Rattle.amr_oa.specs.Written.{interleaving_part, header_part, entry_octet, table_part, checks_part, frame_part, plain_part, row_part, longest_of, sorted_part, body_part, written_as}
-use Rattle.amr_toc.proofs.EntryBits.{wide}
+use Rattle.amr_oa.specs.Written.{header_part, checks_part, frame_part, plain_part, row_part, longest_of, sorted_part, body_part, written_as}
+use Rattle.amr_toc.specs.Entries.{table_part}
 use Rattle.amr_toc.specs.declared.payload.Payload.{Payload}
 use Rattle.amr_toc.specs.Payloads.{CarriesInto, meant}
 use Rattle.amr_toc.proofs.Settled.{settled_fixed, settled_padded, bits_of_filled}
 use Rattle.payload_laws.proofs.Marks.{length-bits_of}
-use Rattle.spec_payload.specs.Grammar.{text, layout, aligned_layout, packed_layout, interleaving_octet, table, entry, octet_at, check_of, checked}
+use Rattle.spec_payload.specs.Grammar.{text, layout, aligned_layout, packed_layout, interleaving_octet, table, octet_at, check_of, checked}
 use Rattle.spec_payload.specs.RobustOrder.{Place, place, order}
-use Rattle.spec_payload.specs.Values.{Value, IsValue, FitsGroup, has_bits, octet_counts}
-
--- two halves of an octet
-halves : (a b v : ℕ) → b < 16 → v ≡ 16 * a + b → nat 8 v ≡ nat 4 a ++ nat 4 b
-halves a b v h e =
-    let one : v / 128 % 2 ≡ a / 8 % 2 = omega arith in
-    let two : v / 64 % 2 ≡ a / 4 % 2 = omega arith in
-    let three : v / 32 % 2 ≡ a / 2 % 2 = omega arith in
-    let four : v / 16 % 2 ≡ a / 1 % 2 = omega arith in
-    let five : v / 8 % 2 ≡ b / 8 % 2 = omega arith in
-    let six : v / 4 % 2 ≡ b / 4 % 2 = omega arith in
-    let seven : v / 2 % 2 ≡ b / 2 % 2 = omega arith in
-    let eight : v / 1 % 2 ≡ b / 1 % 2 = omega arith in
-    λ i. nat_eq (one i) 1 ∷ nat_eq (two i) 1 ∷ nat_eq (three i) 1 ∷ nat_eq (four i) 1 ∷ nat_eq (five i) 1 ∷ nat_eq (six i) 1 ∷ nat_eq (seven i) 1 ∷ nat_eq (eight i) 1 ∷ []
-
--- ILL and ILP
-grouped : (o : Option ℕ) (blocks : ℕ) (v : Value) → FitsGroup (group_bound o) blocks v → map settled (interleaving_octet o v) ≡ bits_of (interleaving_part o v)
-grouped None blocks v h = refl
-grouped (Some most) blocks v h =
-    let high = h.1 in
-    let low = h.2 in
-    sym (halves (v.stride - 1) v.index (16 * (v.stride - 1) + v.index) (omega arith) refl)
-
--- an entry
-entry_is : (more : Bool) (f : Frame) → f.ft ≤ 15 → map settled (entry 2 f more) ≡ nat 8 (entry_octet more f)
-entry_is more f h = sym (wide more f.q f.ft (entry_octet more f) h refl)
-
--- the table
-table_is : (codec : Codec) (frames : List Frame) → AllByRecursion (IsFrame codec) frames → map settled (table 2 frames) ≡ bits_of (table_part frames)
-table_is codec [] a = refl
-table_is codec (f ∷ []) a = entry_is false f a.0.type
-table_is codec (f ∷ g ∷ fs) a =
-    map-append settled (entry 2 f true) (table 2 (g ∷ fs))
-    ∙ (λ i. entry_is true f a.0.type i ++ table_is codec (g ∷ fs) a.1 i)
+use Rattle.spec_payload.specs.Values.{Value, IsValue, has_bits, octet_counts}
 
 -- the CRCs
 checks_are : (p : Profile) (frames : List Frame) → map (check_of p) (checked p frames) ≡ checks_part p frames
@@ -193,65 +158,77 @@ length-body false frames = refl
 length-body true frames = (body_is true frames).many ∙ length-robust (octet_counts frames) ∙ sym (length-plain frames)
 
 -- the parts of a layout as they are written
-parts : (a b c d e f : List Mark) → map settled (a ++ b ++ c ++ d ++ e ++ f) ≡ (map settled a ++ map settled b) ++ map settled c ++ map settled d ++ map settled e ++ map settled f
+parts : (a b c d e f : List Mark) → map settled (a ++ b ++ c ++ d ++ e ++ f)
+    ≡ map settled (a ++ b ++ c) ++ map settled d ++ map settled e ++ map settled f
 parts a b c d e f = simp (map-append, append_assoc)
 
-joined : (a b c d e : List ℕ) → bits_of ((a ++ b) ++ c ++ d ++ e) ≡ bits_of a ++ bits_of b ++ bits_of c ++ bits_of d ++ bits_of e
-joined a b c d e = simp (flat_map-append, append_assoc)
-
 -- the bits of an octet-aligned payload
-settled_aligned : (p : Profile) (v : Value) → IsValue p v → map settled (aligned_layout p v (map (check_of p) (checked p v.frames))) ≡ bits_of (written_as p v)
-settled_aligned p v h =
+settled_aligned : (p : Profile) (v : Value)
+    → map settled (aligned_layout p v (map (check_of p) (checked p v.frames))) ≡ written_as p v
+settled_aligned p v =
     let cs = map (check_of p) (checked p v.frames) in
-    let request : map settled (fixed (nat 4 v.cmr)) ++ map settled (free 4) ≡ bits_of ((16 * v.cmr) ∷ []) = sym (halves v.cmr 0 (16 * v.cmr) (omega arith) (omega arith)) in
-    parts (fixed (nat 4 v.cmr)) (free 4) (interleaving_octet p.interleaving v) (table 2 v.frames) (fixed (bits_of cs)) (flat_map (octet_at v.frames) (order p.sorting (octet_counts v.frames)))
-    ∙ (λ i. request i ++ grouped p.interleaving h.blocks v h.group i ++ table_is p.codec v.frames h.frames i ++ (settled_fixed (bits_of cs) ∙ ap bits_of (checks_are p v.frames)) i ++ (body_is p.sorting v.frames).bits i)
-    ∙ sym (joined ((16 * v.cmr) ∷ []) (interleaving_part p.interleaving v) (table_part v.frames) (checks_part p v.frames) (body_part p.sorting v.frames))
+    let header = header_part p v in
+    let entries = table_part 8 v.frames in
+    let checks = checks_part p v.frames in
+    let body = body_part p.sorting v.frames in
+    let are_checks : map settled (fixed (bits_of cs)) ≡ bits_of checks =
+    settled_fixed (bits_of cs) ∙ ap bits_of (checks_are p v.frames) in
+    parts (fixed (nat 4 v.cmr)) (free 4) (interleaving_octet p.interleaving v) (table 2 v.frames) (fixed (bits_of cs))
+    (flat_map (octet_at v.frames) (order p.sorting (octet_counts v.frames)))
+    ∙ (λ i. header ++ entries ++ are_checks i ++ (body_is p.sorting v.frames).bits i)
+    ∙ append_assoc (header ++ entries) (bits_of checks) (bits_of body)
+    ∙ ap (λ (xs : List Bool). (header ++ entries) ++ xs) (sym (flat_map-append (nat 8) checks body))
 
-settled_layout : (p : Profile) (v : Value) → p.octet_aligned ≡ true → IsValue p v → map settled (layout p v (map (check_of p) (checked p v.frames))) ≡ bits_of (written_as p v)
-settled_layout p v aligned h =
+settled_layout : (p : Profile) (v : Value) → p.octet_aligned ≡ true
+    → map settled (layout p v (map (check_of p) (checked p v.frames))) ≡ written_as p v
+settled_layout p v aligned =
     let cs = map (check_of p) (checked p v.frames) in
-    ap (λ z. map settled (cond z (aligned_layout p v cs) (packed_layout v))) aligned ∙ settled_aligned p v h
+    ap (λ z. map settled (cond z (aligned_layout p v cs) (packed_layout v))) aligned ∙ settled_aligned p v
 
 -- the canonical octets
-pub text_is : (p : Profile) (v : Value) → p.octet_aligned ≡ true → IsValue p v → text p v ≡ filled (bits_of (written_as p v))
-text_is p v aligned h = ap filled (settled_layout p v aligned h)
+pub text_is : (p : Profile) (v : Value) → p.octet_aligned ≡ true → text p v ≡ filled (written_as p v)
+text_is p v aligned = ap filled (settled_layout p v aligned)
 
--- how many octets a table has
-length-table : (frames : List Frame) → length (table_part frames) ≡ length frames
+-- how many bits a table has
+length-table : (frames : List Frame) → length (table_part 8 frames) ≡ 8 * length frames
 length-table [] = refl
 length-table (f ∷ []) = refl
-length-table (f ∷ g ∷ fs) = ap suc (length-table (g ∷ fs))
+length-table (f ∷ g ∷ fs) = let r = length-table (g ∷ fs) in omega arith
 
 -- and a header
-length-header : (p : Profile) (v : Value) → length (header_part p v) ≡ cond (is_some p.interleaving) 2 1
+length-header : (p : Profile) (v : Value) → length (header_part p v) ≡ 8 * cond (is_some p.interleaving) 2 1
 length-header p v = by p.interleaving
   where
-    by : (o : Option ℕ) → length ((16 * v.cmr) ∷ interleaving_part o v) ≡ cond (is_some o) 2 1
+    by : (o : Option ℕ)
+        → length (map settled (fixed (nat 4 v.cmr) ++ free 4 ++ interleaving_octet o v)) ≡ 8 * cond (is_some o) 2 1
     by None = refl
     by (Some most) = refl
 
 -- and a payload
-length-written : (p : Profile) (v : Value) → length (written_as p v) ≡ cond (is_some p.interleaving) 2 1 + length v.frames + length (checks_part p v.frames) + length (plain_part v.frames)
+length-written : (p : Profile) (v : Value) → length (written_as p v)
+    ≡ 8 * (cond (is_some p.interleaving) 2 1 + length v.frames + length (checks_part p v.frames)
+    + length (plain_part v.frames))
 length-written p v =
-    let a = header_part p v in
-    let t = table_part v.frames in
+    let h = header_part p v in
+    let t = table_part 8 v.frames in
     let c = checks_part p v.frames in
     let b = body_part p.sorting v.frames in
-    let l = length-append (a ++ t ++ c) b in
-    let m = length-append (a ++ t) c in
-    let n = length-append a t in
+    let l = length-append (h ++ t) (bits_of (c ++ b)) in
+    let m = length-append h t in
+    let n = length-append c b in
+    let o = length-bits_of (c ++ b) in
     let r = length-header p v in
     let s = length-table v.frames in
     let q = length-body p.sorting v.frames in
     omega arith
 
-pub length-text : (p : Profile) (v : Value) → p.octet_aligned ≡ true → IsValue p v → length (text p v) ≡ cond (is_some p.interleaving) 2 1 + length v.frames + length (checks_part p v.frames) + length (plain_part v.frames)
+pub length-text : (p : Profile) (v : Value) → p.octet_aligned ≡ true → IsValue p v
+    → length (text p v) ≡ cond (is_some p.interleaving) 2 1 + length v.frames + length (checks_part p v.frames)
+    + length (plain_part v.frames)
 length-text p v aligned h =
     let w = written_as p v in
-    let x = length-bits_of w in
-    let octets : octets_for (length (bits_of w)) ≡ length w = omega arith in
-    ap length (text_is p v aligned h) ∙ length-filled (bits_of w) ∙ octets ∙ length-written p v
+    let n = length-written p v in
+    ap length (text_is p v aligned) ∙ length-filled w ∙ omega arith
 
 -- a payload is as long as the octets that it is to be written into
 pub has_room : (p : Profile) (payload : Payload) (out : List ℕ) → p.octet_aligned ≡ true → CarriesInto p payload out
@@ -277,11 +254,25 @@ filled_octets octets are =
     ∙ filled-front octets n [] (omega arith) (below octets are)
     ∙ append-nil (take n octets) ∙ take_all n octets (omega arith)
 
+-- octets of which some were written bit by bit, and the others behind them, are those that all bits fill
+pub all_written : (octets now : List ℕ) (n : ℕ) (bits : List Bool) (behind : List ℕ) → n ≤ length octets
+    → AreOctets now → now ≡ take n octets ++ behind → bits_at octets 0 (8 * n) ≡ bits → now ≡ filled (bits ++ bits_of behind)
+all_written octets now n bits behind fits are e b =
+    let front = take n octets in
+    let size : length front ≡ n = length-take-le n octets fits in
+    let whole : bits_of front ≡ bits =
+    sym (run-all front) ∙ ap (λ (m : ℕ). bits_at front 0 (8 * m)) size
+    ∙ sym (run-append front (drop n octets) (8 * n) (omega arith))
+    ∙ ap (λ (xs : List ℕ). bits_at xs 0 (8 * n)) (take-append-drop n octets) ∙ b in
+    sym (filled_octets now are)
+    ∙ ap (λ (xs : List ℕ). filled (bits_of xs)) e
+    ∙ ap filled (flat_map-append (nat 8) front behind ∙ ap (λ (xs : List Bool). xs ++ bits_of behind) whole)
+
 -- the bits of the canonical octets are those that are written
 pub bits_of_text : (p : Profile) (v : Value) → p.octet_aligned ≡ true → IsValue p v → bits_of (text p v) ≡ map settled (layout p v (map (check_of p) (checked p v.frames)))
 bits_of_text p v aligned h =
     let w = written_as p v in
-    let b = bits_of w in
-    let l = length-bits_of w in
-    let none : gap b ≡ 0 = omega arith in
-    ap bits_of (text_is p v aligned h) ∙ bits_of_filled b ∙ ap (λ (n : ℕ). b ++ replicate n false) none ∙ append-nil b ∙ sym (settled_layout p v aligned h)
+    let l = length-written p v in
+    let none : gap w ≡ 0 = omega arith in
+    ap bits_of (text_is p v aligned) ∙ bits_of_filled w ∙ ap (λ (n : ℕ). w ++ replicate n false) none
+    ∙ append-nil w ∙ sym (settled_layout p v aligned)

@@ -1,15 +1,13 @@
 -- Octets that are written one piece behind the other.
-use Rattle.std.proofs.Common.{◌≡◌, ℕ, ◌+◌, ◌-◌, ◌<◌, ◌≤◌, Bool, true, false, ltb, List, [], ◌∷◌, ◌++◌, length, take, drop, set, get_or, sym, refl, ap, subst, ◌∙◌, arith, zero, suc}
+use Rattle.std.proofs.Common.{◌≡◌, ℕ, ◌+◌, ◌-◌, ◌<◌, ◌≤◌, List, [], ◌∷◌, ◌++◌, length, take, drop, get_or, sym, refl, ap, subst, ◌∙◌, arith, zero, suc}
 use Rattle.std.specs.Prelude.{flat_map}
 use Rattle.std.specs.List.{AllByRecursion, range_with_len}
-use Rattle.std.proofs.lemmas.Bool.{ltb-true, ltb-false}
-use Rattle.std.proofs.lemmas.List.{append-nil, append_assoc, at_drop_more, length-append, length-drop, take_more_set, length-set}
+use Rattle.std.proofs.lemmas.List.{append-nil, append_assoc, at_drop_more, length-append}
 use Rattle.amr_frame.specs.Blocks.{frames_of}
 use Rattle.amr_frame.specs.Cells.{frame_of}
 use Rattle.amr_frame.specs.declared.cell.Cell.{Cell}
 use Rattle.amr_frame.specs.declared.codec.Codec.{Codec}
 use Rattle.amr_frame.specs.Frames.{Frame, IsFrame}
-use Rattle.amr_oa.specs.Written.{entry_octet, table_part}
 
 -- of the octets `all` that are written from `start` on into `old`, those up to `at` stand in `now`, and `rest` is still to be written
 pub record Wrote (old : List ℕ) (start : ℕ) (all now : List ℕ) (at : ℕ) (rest : List ℕ) : Type 0 where
@@ -29,12 +27,6 @@ wrote_step old start all now at piece rest from new end f b l e t = record {
   size = l ∙ b.size;
   place = let s = ap length f ∙ length-append piece rest in let p = b.place in omega arith;
 }
-
--- one octet more
-pub wrote_octet : (old : List ℕ) (start : ℕ) (all now : List ℕ) (at x : ℕ) (rest from : List ℕ) (end : ℕ) → from ≡ x ∷ rest → Wrote old start all now at from → at < length now → end ≡ at + 1
-    → Wrote old start all (set now at x) end rest
-wrote_octet old start all now at x rest from end f b h e =
-    wrote_step old start all now at (x ∷ []) rest from _ end f b (length-set now at x) e (ap (λ (n : ℕ). take n (set now at x)) e ∙ take_more_set now at x h)
 
 -- there is room for a piece
 pub room : (old : List ℕ) (start : ℕ) (all now : List ℕ) (at : ℕ) (piece rest from : List ℕ) → from ≡ piece ++ rest → Wrote old start all now at from → start + length all ≤ length old → at + length piece ≤ length now
@@ -56,21 +48,6 @@ pub pieces_from : (F : Frame → List ℕ) (cells : List Cell) (k : ℕ) (cell :
 pieces_from F cells k cell is h =
     at_drop_more (λ (xs : List Cell). flat_map F (frames_of xs)) cells k cell h
     ∙ ap (λ (x : Cell). F (frame_of x) ++ flat_map F (frames_of (drop (k + 1) cells))) (sym is)
-
--- the front entry, behind which more entries follow or none
-front_entry : (cell : Cell) (rest : List Cell) (more : Bool) → (more ≡ true → 0 < length rest) → (more ≡ false → length rest ≡ 0) → table_part (frames_of (cell ∷ rest)) ≡ entry_octet more (frame_of cell) ∷ table_part (frames_of rest)
-front_entry cell [] true some none = absurd (let h = some refl in omega arith)
-front_entry cell [] false some none = refl
-front_entry cell (d ∷ rest) true some none = refl
-front_entry cell (d ∷ rest) false some none = absurd (let h = none refl in omega arith)
-
--- the entries of the cells from one on
-pub entries_from : (cells : List Cell) (k : ℕ) (cell : Cell) → cell ≡ get_or cells k cell → k < length cells → table_part (frames_of (drop k cells)) ≡ entry_octet (ltb (k + 1) (length cells)) (frame_of cell) ∷ table_part (frames_of (drop (k + 1) cells))
-entries_from cells k cell is h =
-    let l = length-drop (k + 1) cells in
-    at_drop_more (λ (xs : List Cell). table_part (frames_of xs)) cells k cell h
-    ∙ ap (λ (x : Cell). table_part (frames_of (x ∷ drop (k + 1) cells))) (sym is)
-    ∙ front_entry cell (drop (k + 1) cells) (ltb (k + 1) (length cells)) (λ t. let m = ltb-true (k + 1) (length cells) t in omega arith) (λ t. let m = ltb-false (k + 1) (length cells) t in omega arith)
 
 -- the frame of a cell
 frame_in : (codec : Codec) (cells : List Cell) (k : ℕ) (d : Cell) → AllByRecursion (IsFrame codec) (frames_of cells) → k < length cells → IsFrame codec (frame_of (get_or cells k d))

@@ -1,30 +1,18 @@
--- The octets of an octet-aligned payload that is written, part by part (RFC 4867, 4.4).
-use Rattle.std.specs.Prelude.{◌≡◌, ℕ, ◌+◌, ◌-◌, ◌*◌, Bool, true, false, cond, ◌&&◌, nat_lt, max, List, [], ◌∷◌, ◌++◌, length, slice_index, flat_map, fold, take, Option, Some, None}
+-- An octet-aligned payload that is written, part by part (RFC 4867, 4.4).
+use Rattle.std.specs.Prelude.{◌≡◌, ℕ, ◌+◌, Bool, true, false, cond, ◌&&◌, nat_lt, max, List, [], ◌∷◌, ◌++◌, length, map, slice_index, flat_map, fold, take}
 use Rattle.std.specs.List.{range_with_len}
-use Rattle.amr_bits.specs.Bits.{filled, octets_for}
+use Rattle.amr_bits.specs.Bits.{bits_of, filled, nat, octets_for}
+use Rattle.amr_bits.specs.Layout.{fixed, free, settled}
 use Rattle.amr_frame.specs.declared.profile.Profile.{Profile}
 use Rattle.amr_frame.specs.Frames.{Frame}
-use Rattle.spec_payload.specs.Grammar.{check_of}
+use Rattle.amr_toc.specs.Entries.{table_part}
+use Rattle.spec_payload.specs.Grammar.{check_of, interleaving_octet}
 use Rattle.spec_payload.specs.Values.{Value, has_bits, octet_counts}
 
--- ILL and ILP, where the format interleaves
-abbrev pub interleaving_part : Option ℕ → Value → List ℕ
-interleaving_part None v = []
-interleaving_part (Some most) v = (16 * (v.stride - 1) + v.index) ∷ []
-
--- the codec mode request, and ILL and ILP
-abbrev pub header_part : Profile → Value → List ℕ
-header_part p v = (16 * v.cmr) ∷ interleaving_part p.interleaving v
-
--- an entry of the table
-abbrev pub entry_octet : Bool → Frame → ℕ
-entry_octet more f = 128 * cond more 1 0 + 8 * f.ft + 4 * cond f.q 1 0
-
--- the table
-abbrev pub table_part : List Frame → List ℕ
-table_part [] = []
-table_part (f ∷ []) = entry_octet false f ∷ []
-table_part (f ∷ g ∷ fs) = entry_octet true f ∷ table_part (g ∷ fs)
+-- the bits before the table: the codec mode request, and ILL and ILP where the format interleaves
+abbrev pub header_part : Profile → Value → List Bool
+header_part p v =
+    map settled (fixed (nat 4 v.cmr) ++ free 4 ++ interleaving_octet p.interleaving v)
 
 -- the CRC of a frame, where it has one
 abbrev pub check_part : Profile → Frame → List ℕ
@@ -64,10 +52,14 @@ abbrev pub body_part : Bool → List Frame → List ℕ
 body_part false frames = plain_part frames
 body_part true frames = sorted_part frames
 
--- all octets
-abbrev pub written_as : Profile → Value → List ℕ
-written_as p v = header_part p v ++ table_part v.frames ++ checks_part p v.frames
-    ++ body_part p.sorting v.frames
+-- the octets behind the table
+abbrev pub behind_table : Profile → List Frame → List ℕ
+behind_table p frames = checks_part p frames ++ body_part p.sorting frames
+
+-- all bits
+abbrev pub written_as : Profile → Value → List Bool
+written_as p v =
+    header_part p v ++ table_part 8 v.frames ++ bits_of (behind_table p v.frames)
 
 -- these octets were written from `start` on, behind those that stood before, and end at `end`
 pub record PutAt (old : List ℕ) (start : ℕ) (part new : List ℕ) (end : ℕ) : Type 0 where

@@ -1,16 +1,20 @@
-ghost use Rattle.std.specs.Prelude.{◌≡◌, ◌+◌, ◌≤◌, ◌<◌, ◌++◌, ◌∷◌, [], cond, is_some, length, slice_index, take, ℕ};
+ghost use Rattle.std.specs.Prelude.{◌≡◌, ◌+◌, ◌*◌, ◌≤◌, ◌<◌, ◌∷◌, [], cond, is_some, length};
 ghost use Rattle.std.specs.List.{AllByRecursion};
 ghost use Rattle.amr_frame.specs.Blocks.{frames_of};
 ghost use Rattle.amr_frame.specs.Cells.{frame_of};
 ghost use Rattle.amr_frame.specs.Frames.{IsFrame};
 ghost use Rattle.amr_oa.specs.Carried.{CarriesAligned, CarriesAlignedInto};
-ghost use Rattle.amr_oa.specs.Written.{PutAt, check_part, checks_part, entry_octet, header_part, table_part};
+ghost use Rattle.amr_oa.specs.Written.{PutAt, check_part, checks_part, header_part};
+ghost use Rattle.amr_toc.specs.Behind.{WrittenBehind};
 ghost use Rattle.amr_toc.specs.Payloads.{IsSize, meant};
 ghost use Rattle.spec_payload.specs.Grammar.{check_of, text};
 
 use crate::body::{body_octets, put_bodies};
+use amr_bits::BitWriter;
 use amr_frame::{Cell, Profile};
-use amr_toc::{Payload, are_octets, check_over, entries_within, header_octets};
+use amr_toc::{
+    Payload, are_octets, check_over, entries_of, entries_within, header_octets, write_toc,
+};
 
 /// How many octets an octet-aligned payload has.
 pub fn size_oa(profile: &Profile, payload: &Payload<'_>) -> usize
@@ -50,50 +54,34 @@ pub fn write_oa(profile: &Profile, payload: &Payload<'_>, out: &mut [u8])
     ensures { out.new ≡ text profile.now (meant payload.now) }
 {
     entries_within(profile);
-    let table = put_header(profile, payload, out);
-    let checks = put_table(profile, payload.cells, table, out);
-    let body = put_checks(profile, payload.cells, checks, out);
+    let entries = entries_of(payload.cells);
+    let mut at = put_header(profile, payload, out);
+    write_toc(&entries, 8, &mut at, out);
+    let body = put_checks(profile, payload.cells, at.written() / 8, out);
     put_bodies(profile, payload.cells, body, out);
     are_octets(out);
 }
 
-/// Writes what stands before the table, and gives the place behind it (RFC 4867, 4.4.1).
-fn put_header(profile: &Profile, payload: &Payload<'_>, out: &mut [u8]) -> usize
+/// Writes what stands before the table (RFC 4867, 4.4.1).
+fn put_header(profile: &Profile, payload: &Payload<'_>, out: &mut [u8]) -> BitWriter
     requires cmr { payload.now.cmr ≤ 15 }
     requires some { 1 ≤ payload.now.stride }
     requires most { payload.now.stride ≤ 16 }
     requires index { payload.now.index < payload.now.stride }
     requires fits { cond (is_some profile.now.interleaving) 2 1 ≤ length out.old }
-    ensures at { result ≡ cond (is_some profile.now.interleaving) 2 1 }
-    ensures octets { take result out.new ≡ header_part profile.now (meant payload.now) }
+    ensures written { result.written ≡ 8 * cond (is_some profile.now.interleaving) 2 1 }
+    ensures text { WrittenBehind out.old 0 (header_part profile.now (meant payload.now)) out.new
+        result.written }
 {
-    out[0] = 16 * payload.cmr;
+    let mut at = BitWriter::new();
+    at.put(out, payload.cmr as u32, 4);
+    at.put(out, 0, 4);
     if profile.interleaving.is_none() {
-        return 1;
+        return at;
     }
-    out[1] = 16 * (payload.stride - 1) + payload.index;
-    2
-}
-
-/// Writes the table of contents of cells at an octet, and gives the place behind it (RFC 4867, 4.4.2).
-fn put_table(profile: &Profile, cells: &[Cell], start: usize, out: &mut [u8]) -> usize
-    requires frames { AllByRecursion (IsFrame profile.now.codec) (frames_of cells.now) }
-    requires fits { start + length cells.now ≤ length out.old }
-    ensures at { result ≡ start + length cells.now }
-    ensures octets { take result out.new ≡ take start out.old ++ table_part (frames_of cells.now) }
-{
-    for k in 0..cells.len() {
-        out[start + k] = entry_of(profile, &cells[k], k + 1 < cells.len());
-    }
-    start + cells.len()
-}
-
-/// The entry of a cell, with F = 1 where more entries follow.
-fn entry_of(profile: &Profile, cell: &Cell, more: bool) -> u8
-    requires { IsFrame profile.now.codec (frame_of cell.now) }
-    ensures { result ≡ entry_octet more (frame_of cell.now) }
-{
-    128 * more as u8 + 8 * cell.ft + 4 * cell.q as u8
+    at.put(out, payload.stride as u32 - 1, 4);
+    at.put(out, payload.index as u32, 4);
+    at
 }
 
 /// Writes the CRCs of cells at an octet, and gives the place behind them (RFC 4867, 4.4.2.1).

@@ -1,12 +1,14 @@
 -- A table that is written entry by entry.
-use Rattle.std.proofs.Common.{◌≡◌, ℕ, ◌+◌, ◌-◌, ◌*◌, ◌<◌, ◌≤◌, Bool, true, false, ltb, List, [], ◌∷◌, ◌++◌, length, drop, map, get_or, sym, refl, subst, ◌∙◌, arith, inl, inr}
+use Rattle.std.proofs.Common.{◌≡◌, ℕ, zero, suc, ◌+◌, ◌-◌, ◌*◌, ◌<◌, ◌≤◌, Bool, true, false, ltb, List, [], ◌∷◌, ◌++◌, length, drop, map, get_or, sym, refl, ap, subst, ◌∙◌, arith, inl, inr}
 use Rattle.std.specs.Prelude.{◌⊎◌}
 use Rattle.std.proofs.lemmas.Bool.{ltb-true, ltb-false}
-use Rattle.std.proofs.lemmas.List.{append-nil, map-append, at_drop_more, length-drop}
-use Rattle.amr_bits.specs.Layout.{settled}
+use Rattle.std.specs.List.{AllByRecursion}
+use Rattle.std.proofs.lemmas.List.{append-nil, map-append, at_drop_more, length-drop, length-map}
+use Rattle.amr_bits.specs.Layout.{Mark, settled}
+use Rattle.amr_frame.specs.Frames.{Frame}
 use Rattle.spec_payload.specs.Grammar.{entry, table}
 use Rattle.amr_toc.specs.declared.entry.Entry.{Entry}
-use Rattle.amr_toc.specs.Entries.{headed, entry_text, table_text}
+use Rattle.amr_toc.specs.Entries.{AreListed, AreWritable, HasTypes, headed, heading, headings, entry_text, table_text}
 
 -- the front entry, behind which more entries follow or none
 front_entry : (width : ℕ) (e : Entry) (rest : List Entry) (more : Bool) → (more ≡ true → 0 < length rest) → (more ≡ false → length rest ≡ 0) → table_text width (e ∷ rest) ≡ entry_text width e more ++ table_text width rest
@@ -36,3 +38,25 @@ one_more width k w =
       | inl e ↦ subst (λ (x : ℕ). x * (k + 1) ≡ x * k + x) (sym e) (omega arith)
       | inr e ↦ subst (λ (x : ℕ). x * (k + 1) ≡ x * k + x) (sym e) (omega arith)
     ]
+
+-- the frames that the entries of frames head have the same table
+pub same_table : (gap : ℕ) (frames : List Frame) → table gap (map headed (headings frames)) ≡ table gap frames
+same_table gap [] = refl
+same_table gap (f ∷ []) = refl
+same_table gap (f ∷ g ∷ fs) = ap (λ (marks : List Mark). entry gap f true ++ marks) (same_table gap (g ∷ fs))
+
+-- and they have their types
+types_of : (frames : List Frame) → AllByRecursion (λ (f : Frame). f.ft ≤ 15) frames → HasTypes (headings frames)
+types_of [] all k other h = absurd (omega arith)
+types_of (f ∷ fs) all zero other h = all.0
+types_of (f ∷ fs) all (suc k) other h = types_of fs all.1 k other (omega arith)
+
+pub writable : (width : ℕ) (frames : List Frame) → (width ≡ 6) ⊎ (width ≡ 8) → AreListed frames → AreWritable width (headings frames)
+writable width frames wide h =
+    let size = length-map frames heading in
+    record {
+      some = let s = h.some in omega arith;
+      most = let m = h.most in omega arith;
+      types = types_of frames h.types;
+      wide = wide;
+    }

@@ -7,7 +7,7 @@ ghost use Rattle.amr_toc.specs.Widths.{HoldEntry, HoldTable};
 use amr_bits::BitSlice;
 
 /// An entry of a table of contents: a frame type and the quality bit Q (RFC 4867, 4.3.2).
-#[derive(Clone, Copy, Debug, PartialEq, Eq)]
+#[derive(Clone, Copy, Debug, Default, PartialEq, Eq)]
 pub struct Entry {
     pub ft: u8,
     pub q: bool,

@@ -22,4 +22,4 @@ pub use payload::Payload;
 pub use read::{entries_within, read_toc};
 pub use spec_payload::PayloadRefusal;
 pub use view::PayloadView;
-pub use write::{put_entry, write_toc};
+pub use write::{entries_of, write_toc};
