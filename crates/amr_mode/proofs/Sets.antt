@@ -249,3 +249,19 @@ members_are codec set ns h modes = sym (set_is codec set.bits (has ns) (λ m l. 
 -- a list of modes of the codec gives a set
 pub members_set : (codec : Codec) (set : ModeSet) (m : ℕ) → has (members set) m ≡ true → ((k : ℕ) → has (members set) k ≡ true → is_mode codec k ≡ true) → IsModeSet codec (members set)
 members_set codec set m e modes = record { some = nonempty (members set) m e; rising = sym (members_are codec set (members set) (λ k. refl) modes) }
+
+-- sets with the same modes have the same bits
+same_bit : (x y : ℕ) → x < 2 → y < 2 → nat_eq x 1 ≡ nat_eq y 1 → x ≡ y
+same_bit x y l u e = elim (eqb_tells x 1) [
+  | inl t ↦ t.1 ∙ sym (eqb-true y 1 (sym e ∙ t.0))
+  | inr t ↦ elim (eqb_tells y 1) [
+    | inl s ↦ absurd (cc (e, t.0, s.0))
+    | inr s ↦ omega (arith, t.1, s.1)
+  ]
+]
+
+pub same_members : (a b : ModeSet) → a.bits < 2 ^ 16 → b.bits < 2 ^ 16 → members a ≡ members b → a ≡ b
+same_members a b fa fb e = λ i. record { bits = same_from_bits_below 16 a.bits b.bits fa fb bits i }
+  where
+    bits : (m : ℕ) → m < 16 → bit_at a.bits m ≡ bit_at b.bits m
+    bits m l = same_bit (bit_at a.bits m) (bit_at b.bits m) (bit_at-lt a.bits m) (bit_at-lt b.bits m) (sym (member a m l) ∙ ap (λ ms. has ms m) e ∙ member b m l)

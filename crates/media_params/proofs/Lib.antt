@@ -5,3 +5,5 @@ pub mod Parts
 pub mod Whole
 pub mod Built
 pub mod Joined
+pub mod Same
+pub mod Valid

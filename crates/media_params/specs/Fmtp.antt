@@ -1,5 +1,5 @@
 -- What media parameters stand for.
-use Rattle.std.specs.Prelude.{ℕ, false, Option, Some, None, option_map}
+use Rattle.std.specs.Prelude.{ℕ, ◌<◌, ◌^◌, false, IfSome, Option, Some, None, option_map}
 use Rattle.amr_frame.specs.Tables.{mode_bits}
 use Rattle.amr_frame.specs.declared.codec.Codec.{Codec}
 use Rattle.amr_frame.specs.declared.profile.Profile.{Profile}
@@ -40,3 +40,7 @@ format_of f codec channels max_blocks = record {
   crc = f.crc;
   sorting = f.sorting;
 }
+
+-- the bits of a set, if there is one, are a number of 16 bits
+abbrev pub AreShort : Option ModeSet → Type 0
+AreShort modes = IfSome modes (λ set. set.bits < 2 ^ 16)

@@ -1,5 +1,8 @@
 // Media parameters.
-ghost use Rattle.std.specs.Prelude.{◌≡◌};
+ghost use Rattle.std.specs.Prelude.{◌≡◌, ◌≤◌, ◌<◌, ◌^◌};
+ghost use Rattle.amr_frame.specs.Profiles.{IsValid};
+ghost use Rattle.media_params.specs.Fmtp.{AreShort};
+ghost use Rattle.spec_media.specs.Params.{AreParameters};
 
 use amr_frame::{Codec, Profile};
 use amr_mode::ModeSet;
@@ -28,12 +31,16 @@ pub struct Fmtp {
 }
 
 impl Fmtp {
-    ghost use Rattle.media_params.specs.Fmtp.{format_of};
+    ghost use Rattle.media_params.specs.Fmtp.{format_of, parameters};
 
     /// The payload format of these parameters, which isn't strict and has their modes, or all of the codec.
+    /// It is valid for 1 to 6 channels and payloads of at most 1 to 64 blocks.
     pub fn profile(&self, codec: Codec, channels: u8, max_blocks: u8) -> Profile
-        ensures { result ≡ format_of self.now codec channels max_blocks }
+        ensures format { result ≡ format_of self.now codec channels max_blocks }
+        ensures valid { AreParameters codec (parameters self.now) → 1 ≤ channels → channels ≤ 6
+            → 1 ≤ max_blocks → max_blocks ≤ 64 → IsValid result }
     {
+        tell_short(self.modes);
         let modes = match self.modes {
             Some(set) => set.bits,
             None => ModeSet::all(codec).bits,
@@ -49,3 +56,16 @@ impl Fmtp {
         }
     }
 }
+
+/// Tells the proofs how great the bits of a set can be, and does nothing.
+pub(crate) fn tell_short(modes: Option<ModeSet>)
+    ensures { AreShort modes }
+{
+    if let Some(set) = modes {
+        tell_short_bits(set.bits);
+    }
+}
+
+fn tell_short_bits(bits: u16)
+    ensures { bits < 2 ^ 16 }
+{}

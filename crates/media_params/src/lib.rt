@@ -3,6 +3,7 @@
 
 mod fmtp;
 mod given;
+mod laws;
 mod names;
 mod pieces;
 mod printing;
@@ -10,6 +11,7 @@ mod reading;
 mod values;
 
 pub use fmtp::Fmtp;
+pub use laws::reads_what_was_printed;
 pub use printing::print_fmtp;
 pub use reading::read_fmtp;
 pub use refusals::{FmtpRefusal, Param};
