@@ -17,11 +17,11 @@ pub record Answering : Type 0 where
   pub wanted : Wanted
   pub port : ℕ
 
-abbrev chosen_end : Option Chosen → RunEnd
+abbrev pub chosen_end : Option Chosen → RunEnd
 chosen_end None = end.NoAnswer
 chosen_end (Some c) = end.Done
 
-abbrev offer_end : Wanted → Result Offer OfferRefusal → RunEnd
+abbrev pub offer_end : Wanted → Result Offer OfferRefusal → RunEnd
 offer_end w (Err r) = end.Sdp r
 offer_end w (Ok o) = chosen_end (answer_to o w).chosen
 
@@ -31,11 +31,11 @@ abbrev pub answer_end : Answering → ℕ → List ℕ → RunEnd
 answer_end a limit input =
     cond (nat_lt limit (length input)) end.LimitReached (offer_end a.wanted (offer_of input))
 
-abbrev chosen_text : Offer → Answering → Option Chosen → List ℕ
+abbrev pub chosen_text : Offer → Answering → Option Chosen → List ℕ
 chosen_text o a None = []
 chosen_text o a (Some c) = answer_text o a.wanted a.port c
 
-abbrev offer_text : Answering → Result Offer OfferRefusal → List ℕ
+abbrev pub offer_text : Answering → Result Offer OfferRefusal → List ℕ
 offer_text a (Err r) = []
 offer_text a (Ok o) = chosen_text o a (answer_to o a.wanted).chosen
 
@@ -43,7 +43,7 @@ offer_text a (Ok o) = chosen_text o a (answer_to o a.wanted).chosen
 abbrev pub answer_out : Answering → ℕ → List ℕ → List ℕ
 answer_out a limit input = cond (nat_lt limit (length input)) [] (offer_text a (offer_of input))
 
-abbrev types_refused : Wanted → Result Offer OfferRefusal → List RefusedType
+abbrev pub types_refused : Wanted → Result Offer OfferRefusal → List RefusedType
 types_refused w (Err r) = []
 types_refused w (Ok o) = (answer_to o w).refused
 

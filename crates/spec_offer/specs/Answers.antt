@@ -63,7 +63,7 @@ chosen_of w t = record {
   parameters = record t.parameters { modes = answered_modes w t.parameters.modes };
 }
 
-abbrev refused_of : Wanted → OfferedType → Option RefusedType
+abbrev pub refused_of : Wanted → OfferedType → Option RefusedType
 refused_of w t = option_map (λ why. record { pt = t.pt; why = why }) (unsuited w t)
 
 -- the answer: the first type that suits, and those before it with the reasons against them

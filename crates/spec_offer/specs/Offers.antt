@@ -44,7 +44,7 @@ pub record Offer : Type 0 where
   pub ptime : Option ℕ
   pub maxptime : Option ℕ
 
-abbrev with_parameters : ℕ → Codec → ℕ → Result Parameters FmtpRefusal
+abbrev pub with_parameters : ℕ → Codec → ℕ → Result Parameters FmtpRefusal
     → Result OfferedType OfferRefusal
 with_parameters pt codec channels (Ok p) =
     Ok (record { pt = pt; codec = codec; channels = channels; parameters = p })
@@ -86,11 +86,11 @@ offered s = record {
   maxptime = maxptime_of s;
 }
 
-abbrev answered : Option OfferRefusal → Offer → Result Offer OfferRefusal
+abbrev pub answered : Option OfferRefusal → Offer → Result Offer OfferRefusal
 answered None o = Ok o
 answered (Some r) o = Err r
 
-abbrev read_section : Option Section → Result Offer OfferRefusal
+abbrev pub read_section : Option Section → Result Offer OfferRefusal
 read_section None = Err why.NoAudio
 read_section (Some s) = answered (section_refusal s) (offered s)
 

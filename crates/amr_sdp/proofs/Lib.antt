@@ -1,0 +1,4 @@
+pub mod Going
+pub mod AllWanted
+pub mod OfType
+pub mod Trying
