@@ -1,0 +1,14 @@
+//! Interleaving groups (RFC 4867, 4.4.1): where each block stands in them, and the blocks of one
+//! group, kept until its packets are sent.
+#![tactic(auto)]
+
+mod buffer;
+mod laws;
+mod plan;
+
+pub use buffer::GroupBuffer;
+pub use laws::each_block_is_in_one_packet;
+pub use plan::GroupPlan;
+
+#[cfg(test)]
+mod tests;
