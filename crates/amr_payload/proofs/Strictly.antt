@@ -285,6 +285,11 @@ takes_written p v valid h modes =
     }) in
     record { none = (taken_none p (text p v) v told).0; value = told }
 
+pub taken_as_written : (p : Profile) (v : Value) (octets : List ℕ) → IsValid p → IsValue p v → octets ≡ text p v
+    → (p.strict ≡ true → HasModes p v) → IsTaken p octets v
+taken_as_written p v octets valid h e modes =
+    subst (λ (os : List ℕ). IsTaken p os v) (sym e) (takes_written p v valid h modes)
+
 -- in a strict format a value has one payload
 pub one_payload : (p : Profile) (v w : Value) (octets others : List ℕ) → IsValid p → p.strict ≡ true → AreOctets octets → AreOctets others
     → IsTaken p octets v → IsTaken p others w → (v ≡ w) ↔ (octets ≡ others)

@@ -14,5 +14,5 @@ returns-clause-octets c =
           (text c.args.profile.now (meant c.args.payload.now)) c.write_rtp.new.out c.args.room.now
           c.write_payload.new.out c.size_payload-size.result c.requires.header (search rules) (search rules)
           (omega (arith, room))
-          c.write_rtp.ensures.octets c.write_payload.ensures;
+          c.write_rtp.ensures.octets c.write_payload.ensures.text;
     }
