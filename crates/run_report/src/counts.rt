@@ -19,7 +19,7 @@ pub struct Counts {
     pub rtp: u64,
     /// Packets of another payload type than the asked one.
     pub other_type: u64,
-    /// Packets refused for their payload (P1 to P10).
+    /// Packets refused for their payload: P1 to P10, and P11 to P13 in a strict format.
     pub payload: u64,
     /// Packets refused for their place in the session (S1 to S3).
     pub place: u64,
