@@ -1,5 +1,5 @@
 -- The least and the greatest of modes, and which modes a filter leaves: by whether a mode is there.
-use Rattle.std.proofs.Common.{◌≡◌, ℕ, ◌+◌, ◌<◌, ◌≤◌, ◌⊎◌, inl, inr, min, max, Bool, true, false, cond, ◌&&◌, ◌||◌, nat_eq, nat_le, nat_lt, List, [], ◌∷◌, filter, fold, refl, ap, ◌∙◌, sym, arith, subst, eqb-true, eq-eqb, leb-true, le-leb, ltb-true, lt-ltb}
+use Rattle.std.proofs.Common.{◌≡◌, ℕ, ◌+◌, ◌<◌, ◌≤◌, ◌⊎◌, inl, inr, min, max, Bool, true, false, ◌&&◌, ◌||◌, nat_eq, nat_le, nat_lt, List, [], ◌∷◌, filter, fold, refl, ap, ◌∙◌, sym, arith, eqb-true, eq-eqb, leb-true, le-leb, ltb-true, lt-ltb}
 use Rattle.std.specs.List.{list_all}
 use Rattle.std.proofs.lemmas.Bool.{and_parts, cases_lt}
 use Rattle.std.proofs.lemmas.Bool.Decides.{eqb_tells}
@@ -29,19 +29,23 @@ of_more x xs m e = elim (eqb_tells x m) [
   | inr t ↦ inr (sym (ap (λ b. b || has xs m) t.0) ∙ e)
 ]
 
+-- folds of a choice of two that keeps within a bound, where the bound is among what is folded
+module _ (pick : ℕ → ℕ → ℕ) (Within : ℕ → ℕ → Type 0) (both : (t x g : ℕ) → Within t g → Within x g → Within (pick t x) g)
+    (stays : (x g : ℕ) → Within x g → pick g x ≡ g) (moves : (t g : ℕ) → Within t g → pick t g ≡ g) where
+  fold_is : (xs : List ℕ) (t g : ℕ) → Within t g → ((k : ℕ) → has xs k ≡ true → Within k g) → (t ≡ g) ⊎ (has xs g ≡ true) → fold pick t xs ≡ g
+  fold_is [] t g l h (inl e) = e
+  fold_is [] t g l h (inr e) = absurd cc
+  fold_is (x ∷ xs) t g l h at = let behind = h x (has_head x xs) in
+      fold_is xs (pick t x) g (both t x g l behind) (λ k e. h k (has_more x xs k e)) (elim at [
+        | inl e ↦ inl (ap (λ n. pick n x) e ∙ stays x g behind)
+        | inr e ↦ elim (of_more x xs g e) [ inl s ↦ inl (ap (pick t) s ∙ moves t g l) | inr s ↦ inr s ]
+      ])
+
 pub max_is : (xs : List ℕ) (t g : ℕ) → t ≤ g → ((k : ℕ) → has xs k ≡ true → k ≤ g) → (t ≡ g) ⊎ (has xs g ≡ true) → fold max t xs ≡ g
-max_is [] t g l h (inl e) = e
-max_is [] t g l h (inr e) = absurd cc
-max_is (x ∷ xs) t g l h (inl e) = let below : x ≤ g = h x (has_head x xs) in max_is xs (max t x) g (omega arith) (λ k e. h k (has_more x xs k e)) (inl (omega arith))
-max_is (x ∷ xs) t g l h (inr e) = let below : x ≤ g = h x (has_head x xs) in
-    max_is xs (max t x) g (omega arith) (λ k e. h k (has_more x xs k e)) (elim (of_more x xs g e) [ inl s ↦ inl (omega arith) | inr s ↦ inr s ])
+max_is = fold_is max (λ t g. t ≤ g) (λ t x g l m. omega (arith, l, m)) (λ x g l. omega (arith, l)) (λ t g l. omega (arith, l))
 
 pub min_is : (xs : List ℕ) (t g : ℕ) → g ≤ t → ((k : ℕ) → has xs k ≡ true → g ≤ k) → (t ≡ g) ⊎ (has xs g ≡ true) → fold min t xs ≡ g
-min_is [] t g l h (inl e) = e
-min_is [] t g l h (inr e) = absurd cc
-min_is (x ∷ xs) t g l h (inl e) = let above : g ≤ x = h x (has_head x xs) in min_is xs (min t x) g (omega arith) (λ k e. h k (has_more x xs k e)) (inl (omega arith))
-min_is (x ∷ xs) t g l h (inr e) = let above : g ≤ x = h x (has_head x xs) in
-    min_is xs (min t x) g (omega arith) (λ k e. h k (has_more x xs k e)) (elim (of_more x xs g e) [ inl s ↦ inl (omega arith) | inr s ↦ inr s ])
+min_is = fold_is min (λ t g. g ≤ t) (λ t x g l m. omega (arith, l, m)) (λ x g l. omega (arith, l)) (λ t g l. omega (arith, l))
 
 greatest_is : (xs : List ℕ) (stays g : ℕ) → has xs g ≡ true → ((k : ℕ) → has xs k ≡ true → k ≤ g) → greatest_or stays xs ≡ g
 greatest_is [] stays g e h = absurd cc

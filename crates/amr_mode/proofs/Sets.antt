@@ -1,9 +1,9 @@
 -- Sets of modes as bits.
-use Rattle.std.proofs.Common.{◌≡◌, ℕ, zero, suc, ◌+◌, ◌*◌, ◌-◌, ◌/◌, ◌%◌, ◌^◌, ◌<◌, ◌≤◌, ◌⊎◌, inl, inr, min, max, Bool, true, false, cond, ◌&&◌, ◌||◌, nat_eq, nat_le, nat_lt, List, [], ◌∷◌, ◌++◌, length, filter, fold, refl, ap, ◌∙◌, sym, arith, subst, eqb-true, eq-eqb, ne_eqb, leb-true, le-leb, w16}
+use Rattle.std.proofs.Common.{◌≡◌, ℕ, zero, suc, ◌+◌, ◌-◌, ◌/◌, ◌%◌, ◌^◌, ◌<◌, ◌≤◌, ◌⊎◌, inl, inr, min, max, Bool, true, false, cond, ◌&&◌, ◌||◌, nat_eq, nat_le, List, [], ◌∷◌, ◌++◌, length, filter, fold, refl, ap, ◌∙◌, sym, arith, eqb-true, eq-eqb, ne_eqb, le-leb, w16}
 use Rattle.std.specs.Cmp.{both_ways}
 use Rattle.std.specs.Int.{bit_at, trailing_zeros}
-use Rattle.std.specs.List.{AllByRecursion, list_all, range_with_len}
-use Rattle.std.proofs.lemmas.Bool.{and_parts, cases_lt}
+use Rattle.std.specs.List.{AllByRecursion, range_with_len}
+use Rattle.std.proofs.lemmas.Bool.{cases_lt}
 use Rattle.std.proofs.lemmas.Bool.Decides.{eqb_tells}
 use Rattle.std.proofs.lemmas.List.Elements.{filter-append}
 use Rattle.std.proofs.lemmas.Nat.Bits.{bit_at-lt, bit_at-trailing_zeros, bit_at_above, bit_at_and, bit_at_cat_low, same_from_bits_below, shr_and_one}
@@ -18,7 +18,7 @@ use Rattle.amr_frame.specs.declared.codec.Codec.{Codec}
 use Rattle.amr_frame.specs.declared.codec.Codec.TheVariants.{Amr, AmrWb}
 use Rattle.amr_mode.specs.Members.{members}
 use Rattle.amr_mode.specs.declared.mode_set.ModeSet.{ModeSet}
-use Rattle.amr_mode.proofs.Nearest.{all_of, has_kept, max_is, of_all}
+use Rattle.amr_mode.proofs.Nearest.{all_of, has_kept, of_all}
 use Rattle.spec_modes.specs.ModeSets.{IsModeSet, all_modes, greatest, has, modes_among, modes_in, within}
 
 -- whether a mode's bit is set

@@ -1,5 +1,5 @@
 -- What a mode desk stands for: the desk of the definitions, after all that it heard and did.
-use Rattle.std.specs.Prelude.{◌≡◌, ℕ, ◌%◌, List}
+use Rattle.std.specs.Prelude.{◌≡◌, ◌%◌, List}
 use Rattle.amr_mode.specs.declared.desk.ModeDesk.{ModeDesk}
 use Rattle.spec_modes.specs.Desk.{Desk, DeskPlan, Event, desk}
 use Rattle.amr_mode.specs.Members.{members}

@@ -12,9 +12,9 @@ use Rattle.spec_media.specs.Params.{Parameters}
 abbrev pub parameters : Fmtp → Parameters
 parameters f = record {
   octet_aligned = f.octet_aligned;
-  modes = option_map members f.modes;
   period = f.period;
   capability = f.capability;
+  modes = option_map members f.modes;
   neighbor = f.neighbor;
   crc = f.crc;
   sorting = f.sorting;

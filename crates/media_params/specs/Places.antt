@@ -5,12 +5,14 @@ use Rattle.refusals.specs.declared.param.Param.TheVariants as param
 
 -- the place of a parameter in the table
 abbrev pub place : Param → ℕ
-place param.OctetAlign = 0
-place param.ModeSet = 1
-place param.Period = 2
-place param.Capability = 3
-place param.Neighbor = 4
-place param.Crc = 5
-place param.Sorting = 6
-place param.Interleaving = 7
-place param.MaxRed = 8
+place p = elim p [
+  | param.OctetAlign ↦ 0
+  | param.ModeSet ↦ 1
+  | param.Period ↦ 2
+  | param.Capability ↦ 3
+  | param.Neighbor ↦ 4
+  | param.Crc ↦ 5
+  | param.Sorting ↦ 6
+  | param.Interleaving ↦ 7
+  | param.MaxRed ↦ 8
+]

@@ -1,4 +1,3 @@
-use Rattle.std.proofs.Common.{◌+◌}
 use Rattle.amr_mode.proofs.Nearest.{Without}
 use Rattle.amr_mode.specs.Members.{members}
 use Rattle.amr_mode.proofs.mode_set.ModeSet.greatest_below.Given as goal

@@ -1,4 +1,4 @@
-use Rattle.std.proofs.Common.{◌≡◌, ◌+◌, ◌-◌, arith, sym, ◌∙◌}
+use Rattle.std.proofs.Common.{◌-◌, arith, sym, ◌∙◌}
 use Rattle.amr_mode.proofs.Nearest.{up_to_found, up_to_none}
 use Rattle.amr_mode.specs.Members.{members}
 use Rattle.amr_mode.proofs.mode_set.ModeSet.greatest_up_to.Goals as goal

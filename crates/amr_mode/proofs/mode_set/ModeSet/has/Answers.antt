@@ -1,4 +1,4 @@
-use Rattle.std.proofs.Common.{◌∙◌, arith, sym, le-ltb}
+use Rattle.std.proofs.Common.{◌∙◌, sym, le-ltb}
 use Rattle.amr_mode.proofs.Sets.{tested, no_member}
 use Rattle.amr_mode.proofs.mode_set.ModeSet.has.Goals as goal
 

@@ -1,4 +1,4 @@
-use Rattle.std.proofs.Common.{◌≡◌, ◌+◌, ◌-◌, arith, inl, inr, refl, sym, ◌∙◌}
+use Rattle.std.proofs.Common.{arith, inl, inr, refl, sym, ◌∙◌}
 use Rattle.amr_mode.proofs.Nearest.{above_found}
 use Rattle.amr_mode.specs.Members.{members}
 use Rattle.amr_mode.proofs.mode_set.ModeSet.least_above.Goals as goal

@@ -1,4 +1,4 @@
-use Rattle.std.proofs.Common.{◌≡◌, ◌<◌, arith, refl}
+use Rattle.std.proofs.Common.{arith, refl}
 use Rattle.amr_mode.proofs.Sets.{no_set_above, no_set_of_none, set_of}
 use Rattle.amr_mode.proofs.mode_set.ModeSet.of.Goals.{then-bits-eq0-via-then-bits-eq0, then-bits-eq0-via-else-bits-eq0+then-bits-all}
 use Rattle.amr_mode.proofs.mode_set.ModeSet.of.Goals as goal
