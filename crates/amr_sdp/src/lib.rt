@@ -9,3 +9,6 @@ mod read;
 pub use answer::{Answer, Chosen, Wanted, choose_answer};
 pub use offer::{Offer, OfferError, OfferedType};
 pub use read::read_offer;
+
+#[cfg(test)]
+mod tests;
