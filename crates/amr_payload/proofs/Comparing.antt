@@ -5,10 +5,15 @@ use Rattle.std.specs.List.{range_with_len}
 use Rattle.std.proofs.lemmas.Bool.{ltb-true, ltb-false, eq-eqb}
 use Rattle.std.proofs.lemmas.List.{append_assoc, append-nil, at_drop_more, length-drop}
 use Rattle.amr_frame.specs.Frames.{Frame, no_data}
-use Rattle.amr_bits.specs.Bits.{bit_at, bits_at, filled}
+use Rattle.amr_bits.proofs.Filled.{length-filled}
+use Rattle.amr_bits.specs.Bits.{bit_at, bits_at, filled, octets_for}
 use Rattle.amr_frame.specs.Profiles.{group_bound}
-use Rattle.amr_oa.specs.Written.{entry_octet, interleaving_part, table_part}
-use Rattle.amr_payload.specs.Comparing.{Compares, Has, Differs, differs_from}
+use Rattle.amr_frame.specs.declared.profile.Profile.{Profile}
+use Rattle.amr_oa.proofs.Pieces.{range_from}
+use Rattle.amr_oa.specs.Written.{check_part, entry_octet, frame_part, interleaving_part, longest_of, octet_part, row_part, sorted_part, table_part}
+use Rattle.amr_payload.specs.Comparing.{Compares, Has, Differs, differs_from, part_of, piece_of}
+use Rattle.amr_payload.specs.declared.compare.Part.{Part}
+use Rattle.amr_payload.specs.declared.compare.Part.TheVariants.{Table, Checks, Frames, Row}
 use Rattle.amr_toc.proofs.Filling.{octet_is}
 use Rattle.spec_payload.specs.Values.{Value, FitsGroup}
 use Rattle.spec_payload.specs.Strict.{differs_at, first_difference}
@@ -139,6 +144,59 @@ entries_at frames k h =
     ∙ front_entry (get_or frames k no_data) (drop (k + 1) frames) (ltb (k + 1) (length frames))
     (λ t. let m = ltb-true (k + 1) (length frames) t in omega arith)
     (λ t. let m = ltb-false (k + 1) (length frames) t in omega arith)
+
+-- what the frames from one on have of a part, and that none behind the last have any
+pub pieces_at : (p : Profile) (part : Part) (frames : List Frame) (k : ℕ) → k < length frames
+    → part_of p part (drop k frames) ≡ piece_of p part frames k ++ part_of p part (drop (k + 1) frames)
+pieces_at p Table frames k h = entries_at frames k h
+pieces_at p Checks frames k h = parts_at (check_part p) frames k h
+pieces_at p Frames frames k h = parts_at frame_part frames k h
+pieces_at p (Row octet) frames k h = parts_at (octet_part octet) frames k h
+
+pub no_pieces : (p : Profile) (part : Part) (frames : List Frame) (k : ℕ) → length frames ≤ k
+    → part_of p part (drop k frames) ≡ []
+no_pieces p part frames k h = ap (part_of p part) (all_dropped frames k h) ∙ none part
+  where
+    none : (part : Part) → part_of p part [] ≡ []
+    none Table = refl
+    none Checks = refl
+    none Frames = refl
+    none (Row octet) = refl
+
+-- the octets of a frame, one more, and one in which they differ
+module _ (f : Frame) (octets : List ℕ) (start at o size : ℕ) (is : size ≡ octets_for (length f.bits)) (h : o < size)
+    (w : Went octets start (frame_part f) at (drop o (frame_part f))) where
+  octet_at : drop o (frame_part f) ≡ (get_or (frame_part f) o 0 ∷ []) ++ drop (o + 1) (frame_part f)
+  octet_at = let l = length-filled f.bits in at_drop_more (λ (xs : List ℕ). xs) (frame_part f) o 0 (omega arith)
+
+  pub frame_more : (end : ℕ) → Has octets at (get_or (frame_part f) o 0 ∷ []) end
+      → Went octets start (frame_part f) end (drop (o + 1) (frame_part f))
+  frame_more end = went_step octets start (frame_part f) at (get_or (frame_part f) o 0 ∷ []) (drop (o + 1) (frame_part f))
+      (drop o (frame_part f)) end octet_at w
+
+  pub frame_wrong : (place : ℕ) → Differs octets at (get_or (frame_part f) o 0 ∷ []) place
+      → Differs octets start (frame_part f) place
+  frame_wrong place = went_wrong octets start (frame_part f) at (get_or (frame_part f) o 0 ∷ [])
+      (drop (o + 1) (frame_part f)) (drop o (frame_part f)) place octet_at w
+
+-- the rows of the robust order from one on, and those that go behind the first
+abbrev pub rows_from : List Frame → ℕ → List ℕ
+rows_from frames o = flat_map (row_part frames) (range_with_len o (longest_of frames - o))
+
+module _ (frames : List Frame) (octets : List ℕ) (start at o size : ℕ) (is : size ≡ longest_of frames) (h : o < size)
+    (w : Went octets start (sorted_part frames) at (rows_from frames o)) where
+  row_at : rows_from frames o ≡ row_part frames o ++ rows_from frames (o + 1)
+  row_at = ap (flat_map (row_part frames)) (range_from o (longest_of frames) (omega arith))
+
+  pub row_more : (end : ℕ) → Has octets at (row_part frames o) end
+      → Went octets start (sorted_part frames) end (rows_from frames (o + 1))
+  row_more end = went_step octets start (sorted_part frames) at (row_part frames o) (rows_from frames (o + 1))
+      (rows_from frames o) end row_at w
+
+  pub row_wrong : (place : ℕ) → Differs octets at (row_part frames o) place
+      → Differs octets start (sorted_part frames) place
+  row_wrong place = went_wrong octets start (sorted_part frames) at (row_part frames o) (rows_from frames (o + 1))
+      (rows_from frames o) place row_at w
 
 -- the first place where octets differ from a text of as many
 found_from : (octets text rest : List ℕ) (at : ℕ) → ((i : ℕ) → get_or text (at + i) 0 ≡ get_or rest i 0)

@@ -16,7 +16,7 @@ use Rattle.amr_frame.specs.Frames.{Frame, no_data}
 use Rattle.amr_oa.specs.Written.{check_part, written_as}
 use Rattle.amr_payload.proofs.Canonical.{same_long, text_is_written}
 use Rattle.amr_payload.proofs.Comparing.{found, found_none, found_some, has_none, ltb_is, own_front}
-use Rattle.amr_payload.specs.Comparing.{Compares, Has, Differs, differs_from}
+use Rattle.amr_payload.specs.Comparing.{Compares, Has, Differs, IsPackedView, differs_from}
 use Rattle.amr_toc.specs.declared.view.PayloadView.{PayloadView}
 use Rattle.amr_toc.specs.Viewed.{format_of, frame_in, octets_of, said, viewed}
 use Rattle.payload_laws.proofs.EachFormat.{in_grammar_of}
@@ -178,3 +178,33 @@ module _ (view : PayloadView) (packed : view.profile.octet_aligned ≡ false) (s
       ∙ own_front octets (c ∷ []) 0 last (omega arith)
       ∙ ap (λ (k : ℕ). differs_from octets k (c ∷ [])) (omega arith)
       ∙ ap (λ b. cond (b && nat_eq (get_or octets last 0) c) None (Some last)) (ltb_is last (length octets) (omega arith))
+
+-- how many bits it has at least, and where it differs, by what is counted of it
+module _ (p : Profile) (view : PayloadView) (lent : List ℕ) (frames body : ℕ) (of_format : IsPackedView p view)
+    (small : AreOctets lent) (same : lent ≡ octets_of view) (counted : frames ≡ length (said view).frames)
+    (summed : body ≡ length (body_part (said view).frames)) where
+  no_more : view.profile.octet_aligned ≡ false
+  no_more = ap (λ (x : Profile). x.octet_aligned) of_format.format ∙ of_format.packed
+
+  pub pad_fits : 4 + 6 * frames + body ≤ 8 * length lent
+  pad_fits =
+      let fits = packed_fits view no_more (subst AreOctets same small) in
+      let l = ap length same in
+      omega arith
+
+  abbrev last : ℕ
+  last = (4 + 6 * frames + body - 1) / 8
+
+  abbrev rest : ℕ
+  rest = 4 + 6 * frames + body - 8 * last
+
+  abbrev clear : List ℕ → Option ℕ
+  clear xs = cond (nat_eq (get_or xs last 0) (get_or (filled (bits_at xs (8 * last) rest)) 0 0)) None (Some last)
+
+  pub pad_told : (x : ℕ) → x ≡ get_or (filled (bits_at lent (8 * last) rest)) 0 0
+      → first_difference (octets_of view) (text p (said view)) ≡ cond (nat_eq (get_or lent last 0) x) None (Some last)
+  pad_told x is =
+      subst (λ (q : Profile). first_difference (octets_of view) (text q (said view)) ≡ clear (octets_of view))
+      of_format.format
+      (packed_told view no_more (subst AreOctets same small) last rest (omega arith) (omega arith) (omega arith))
+      ∙ ap clear (sym same) ∙ ap (λ n. cond (nat_eq (get_or lent last 0) n) None (Some last)) (sym is)

@@ -3,6 +3,9 @@ use Rattle.std.specs.Prelude.{◌≡◌, ℕ, ◌+◌, true, false, cond, ◌&&�
 use Rattle.amr_frame.specs.declared.profile.Profile.{Profile}
 use Rattle.amr_frame.specs.First.{when}
 use Rattle.amr_frame.specs.Frames.{Frame, no_data}
+use Rattle.amr_oa.specs.Written.{check_part, checks_part, entry_octet, frame_part, octet_part, plain_part, row_part, table_part}
+use Rattle.amr_payload.specs.declared.compare.Part.{Part}
+use Rattle.amr_payload.specs.declared.compare.Part.TheVariants.{Table, Checks, Frames, Row}
 use Rattle.amr_toc.specs.declared.view.PayloadView.{PayloadView}
 use Rattle.amr_toc.specs.Viewed.{format_of}
 use Rattle.spec_payload.specs.declared.refusal.PayloadRefusal.{PayloadRefusal}
@@ -29,6 +32,20 @@ pub record Differs (octets : List ℕ) (start : ℕ) (part : List ℕ) (place : 
 abbrev pub Compares : List ℕ → ℕ → List ℕ → Result ℕ ℕ → Type 0
 Compares octets start part (Ok end) = Has octets start part end
 Compares octets start part (Err place) = Differs octets start part place
+
+-- what frames have of a part of an octet-aligned payload (RFC 4867, 4.4), and what frame k has of it
+abbrev pub part_of : Profile → Part → List Frame → List ℕ
+part_of p Table fs = table_part fs
+part_of p Checks fs = checks_part p fs
+part_of p Frames fs = plain_part fs
+part_of p (Row octet) fs = row_part fs octet
+
+abbrev pub piece_of : Profile → Part → List Frame → ℕ → List ℕ
+piece_of p Table fs k =
+    entry_octet (nat_lt (k + 1) (length fs)) (slice_index_or fs k no_data) ∷ []
+piece_of p Checks fs k = check_part p (slice_index_or fs k no_data)
+piece_of p Frames fs k = frame_part (slice_index_or fs k no_data)
+piece_of p (Row octet) fs k = octet_part octet (slice_index_or fs k no_data)
 
 -- the view is one of an octet-aligned payload of the format
 pub record IsAligned (p : Profile) (view : PayloadView) : Type 0 where

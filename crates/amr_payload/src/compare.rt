@@ -1,8 +1,9 @@
 //! Where an octet-aligned payload first differs from the canonical one of its value (RFC 4867, 4.4), as its octets go by.
 ghost use Rattle.std.specs.Prelude.{◌≡◌, ◌+◌, ◌<◌, ◌≤◌, ◌∷◌, [], length, nat_lt, slice_index};
 ghost use Rattle.amr_bits.specs.Bits.{bits_at, filled, octets_for};
-ghost use Rattle.amr_oa.specs.Written.{body_part, check_part, checks_part, entry_octet, frame_part, header_part, interleaving_part, longest_of, octet_part, plain_part, row_part, sorted_part, table_part, written_as};
-ghost use Rattle.amr_payload.specs.Comparing.{Compares, IsAligned};
+ghost use Rattle.amr_oa.specs.Written.{body_part, check_part, entry_octet, frame_part, header_part};
+ghost use Rattle.amr_oa.specs.Written.{interleaving_part, longest_of, octet_part, sorted_part, written_as};
+ghost use Rattle.amr_payload.specs.Comparing.{Compares, IsAligned, part_of, piece_of};
 ghost use Rattle.amr_toc.specs.Viewed.{frame_in, octets_of, said, viewed};
 ghost use Rattle.spec_payload.specs.Grammar.{text};
 ghost use Rattle.spec_payload.specs.Strict.{first_difference};
@@ -10,6 +11,16 @@ ghost use Rattle.spec_payload.specs.Strict.{first_difference};
 use amr_bits::BitSlice;
 use amr_frame::{Profile, bits_of, octets_of};
 use amr_toc::{PayloadView, are_octets, check_over};
+
+/// What each frame has a piece of: the table of contents (RFC 4867, 4.4.2), the CRCs (4.4.2.1), the frames one behind
+/// the other (4.4.3), and a row of the robust order, which is one octet of each frame that has it (4.4.4).
+#[derive(Clone, Copy)]
+pub enum Part {
+    Table,
+    Checks,
+    Frames,
+    Row(usize),
+}
 
 /// The first octet in which a payload isn't the canonical one of its value.
 pub(crate) fn aligned_difference(profile: &Profile, view: &PayloadView<'_>) -> Option<usize>
@@ -32,11 +43,11 @@ fn compare_aligned(profile: &Profile, view: &PayloadView<'_>) -> Result<usize, u
         Ok(end) => end,
         Err(place) => return Err(place),
     };
-    let checks = match compare_table(view, table) {
+    let checks = match compare_part(profile, view, Part::Table, table) {
         Ok(end) => end,
         Err(place) => return Err(place),
     };
-    let body = match compare_checks(profile, view, checks) {
+    let body = match compare_part(profile, view, Part::Checks, checks) {
         Ok(end) => end,
         Err(place) => return Err(place),
     };
@@ -52,7 +63,7 @@ fn compare_body(profile: &Profile, view: &PayloadView<'_>, start: usize) -> Resu
     if profile.sorting {
         compare_sorted(profile, view, start)
     } else {
-        compare_plain(profile, view, start)
+        compare_part(profile, view, Part::Frames, start)
     }
 }
 
@@ -101,18 +112,46 @@ fn compare_interleaving(
     compare_at(view, place, 16 * (view.stride() - 1) + view.index())
 }
 
-/// Compares the table of contents from an octet on (RFC 4867, 4.4.2).
-fn compare_table(view: &PayloadView<'_>, start: usize) -> Result<usize, usize>
-    ensures { Compares (octets_of view.now) start (table_part (said view.now).frames) result }
+/// Compares from an octet on what each frame has of a part, frame by frame.
+fn compare_part(
+    profile: &Profile,
+    view: &PayloadView<'_>,
+    part: Part,
+    start: usize,
+) -> Result<usize, usize>
+    requires { IsAligned profile.now view.now }
+    ensures { Compares (octets_of view.now) start
+        (part_of profile.now part (said view.now).frames) result }
 {
     let mut place = start;
     for at in 0..view.frames() {
-        place = match compare_entry(view, at, place) {
+        place = match compare_piece(profile, view, part, at, place) {
             Ok(end) => end,
             Err(place) => return Err(place),
         };
     }
     Ok(place)
+}
+
+/// Compares what frame `at` has of a part.
+fn compare_piece(
+    profile: &Profile,
+    view: &PayloadView<'_>,
+    part: Part,
+    at: usize,
+    place: usize,
+) -> Result<usize, usize>
+    requires payload { IsAligned profile.now view.now }
+    requires frame { at < length (viewed view.now).frames }
+    ensures { Compares (octets_of view.now) place
+        (piece_of profile.now part (said view.now).frames at) result }
+{
+    match part {
+        Part::Table => compare_entry(view, at, place),
+        Part::Checks => compare_check(profile, view, at, place),
+        Part::Frames => compare_frame(profile, view, at, place),
+        Part::Row(octet) => compare_one(profile, view, at, octet, place),
+    }
 }
 
 /// Compares entry `at` of the table.
@@ -136,22 +175,6 @@ fn entry_of(view: &PayloadView<'_>, at: usize, more: bool) -> u8
     128 * more as u8 + 8 * entry.ft + 4 * entry.q as u8
 }
 
-/// Compares the CRCs from an octet on (RFC 4867, 4.4.2.1).
-fn compare_checks(profile: &Profile, view: &PayloadView<'_>, start: usize) -> Result<usize, usize>
-    requires { IsAligned profile.now view.now }
-    ensures { Compares (octets_of view.now) start
-        (checks_part profile.now (said view.now).frames) result }
-{
-    let mut place = start;
-    for at in 0..view.frames() {
-        place = match compare_check(profile, view, at, place) {
-            Ok(end) => end,
-            Err(place) => return Err(place),
-        };
-    }
-    Ok(place)
-}
-
 /// Compares the CRC of frame `at`, where it has one.
 fn compare_check(
     profile: &Profile,
@@ -173,21 +196,6 @@ fn compare_check(
     }
     let check = check_over(profile.codec, cell.ft, cell.bits.as_bits());
     compare_at(view, place, check)
-}
-
-/// Compares the frames, one behind the other, from an octet on (RFC 4867, 4.4.3).
-fn compare_plain(profile: &Profile, view: &PayloadView<'_>, start: usize) -> Result<usize, usize>
-    requires { IsAligned profile.now view.now }
-    ensures { Compares (octets_of view.now) start (plain_part (said view.now).frames) result }
-{
-    let mut place = start;
-    for at in 0..view.frames() {
-        place = match compare_frame(profile, view, at, place) {
-            Ok(end) => end,
-            Err(place) => return Err(place),
-        };
-    }
-    Ok(place)
 }
 
 /// Compares the octets of frame `at` from an octet on.
@@ -219,27 +227,7 @@ fn compare_sorted(profile: &Profile, view: &PayloadView<'_>, start: usize) -> Re
 {
     let mut place = start;
     for octet in 0..longest(profile, view) {
-        place = match compare_row(profile, view, octet, place) {
-            Ok(end) => end,
-            Err(place) => return Err(place),
-        };
-    }
-    Ok(place)
-}
-
-/// Compares octet `octet` of each frame that has one, from an octet on.
-fn compare_row(
-    profile: &Profile,
-    view: &PayloadView<'_>,
-    octet: usize,
-    start: usize,
-) -> Result<usize, usize>
-    requires { IsAligned profile.now view.now }
-    ensures { Compares (octets_of view.now) start (row_part (said view.now).frames octet) result }
-{
-    let mut place = start;
-    for at in 0..view.frames() {
-        place = match compare_one(profile, view, at, octet, place) {
+        place = match compare_part(profile, view, Part::Row(octet), place) {
             Ok(end) => end,
             Err(place) => return Err(place),
         };
