@@ -1,5 +1,5 @@
 -- The canonical octets of a payload that is read: how many they are, and in an octet-aligned payload, part by part.
-use Rattle.std.proofs.Common.{◌≡◌, ℕ, zero, suc, ◌+◌, ◌-◌, ◌*◌, ◌<◌, ◌≤◌, Bool, true, false, cond, List, [], ◌∷◌, ◌++◌, length, map, get_or, sym, refl, ap, ◌∙◌, arith, Option, Some, None}
+use Rattle.std.proofs.Common.{◌≡◌, ℕ, ◌+◌, ◌*◌, ◌<◌, ◌≤◌, Bool, true, false, cond, List, [], ◌∷◌, ◌++◌, length, get_or, sym, refl, ap, ◌∙◌, arith, Option, Some, None}
 use Rattle.std.specs.Prelude.{flat_map, ◌&&◌}
 use Rattle.std.specs.List.{AllByRecursion, range_with_len}
 use Rattle.std.proofs.lemmas.List.{length-map, length-append}
@@ -12,8 +12,10 @@ use Rattle.amr_frame.specs.declared.profile.Profile.{Profile}
 use Rattle.amr_frame.specs.Frames.{Frame, IsFrame}
 use Rattle.amr_frame.specs.Profiles.{group_bound}
 use Rattle.amr_oa.proofs.Canonical.{text_is, filled_octets}
-use Rattle.amr_oa.specs.Written.{interleaving_part, header_part, entry_octet, table_part, check_part, checks_part, frame_part, octet_part, plain_part, row_part, sorted_part, longest_of, body_part, written_as}
+use Rattle.amr_oa.specs.Written.{check_part, checks_part, frame_part, octet_part, row_part, longest_of, body_part}
+use Rattle.amr_payload.specs.Octets.{interleaving_part, header_part, table_part, written_as}
 use Rattle.amr_payload.proofs.Again.{bits_are}
+use Rattle.amr_payload.proofs.OctetText.{written_bits_are}
 use Rattle.amr_payload.specs.Checks.{own_checks}
 use Rattle.payload_laws.proofs.Checks.{checks_below}
 use Rattle.payload_laws.proofs.Marks.{length-bits_of, fits_length}
@@ -109,4 +111,5 @@ written_small p v h =
 
 -- the canonical octets are those that are written, part by part
 pub text_is_written : (p : Profile) (v : Value) → p.octet_aligned ≡ true → IsValue p v → text p v ≡ written_as p v
-text_is_written p v aligned h = text_is p v aligned h ∙ filled_octets (written_as p v) (written_small p v h)
+text_is_written p v aligned h =
+    text_is p v aligned ∙ ap filled (written_bits_are p v h) ∙ filled_octets (written_as p v) (written_small p v h)

@@ -1,5 +1,5 @@
 -- Octets that are compared, one part behind the other.
-use Rattle.std.proofs.Common.{◌≡◌, ℕ, zero, suc, ◌+◌, ◌-◌, ◌*◌, ◌/◌, ◌%◌, ◌^◌, ◌<◌, ◌≤◌, min, Bool, true, false, cond, not, ltb, nat_eq, eqb, List, [], ◌∷◌, ◌++◌, length, map, take, drop, get_or, sym, refl, ap, subst, ◌∙◌, arith, Option, Some, None, inl, inr}
+use Rattle.std.proofs.Common.{◌≡◌, ℕ, zero, suc, ◌+◌, ◌-◌, ◌*◌, ◌/◌, ◌%◌, ◌^◌, ◌<◌, ◌≤◌, min, Bool, true, false, cond, not, ltb, nat_eq, List, [], ◌∷◌, ◌++◌, length, map, take, drop, get_or, sym, refl, ap, subst, ◌∙◌, arith, Option, Some, None}
 use Rattle.std.specs.Prelude.{flat_map, find, is_none, ◌&&◌, Result, Ok, Err}
 use Rattle.std.specs.List.{range_with_len}
 use Rattle.std.proofs.lemmas.Bool.{ltb-true, ltb-false, eq-eqb}
@@ -10,7 +10,8 @@ use Rattle.amr_bits.specs.Bits.{bit_at, bits_at, filled, octets_for}
 use Rattle.amr_frame.specs.Profiles.{group_bound}
 use Rattle.amr_frame.specs.declared.profile.Profile.{Profile}
 use Rattle.amr_oa.proofs.Pieces.{range_from}
-use Rattle.amr_oa.specs.Written.{check_part, entry_octet, frame_part, interleaving_part, longest_of, octet_part, row_part, sorted_part, table_part}
+use Rattle.amr_oa.specs.Written.{check_part, frame_part, longest_of, octet_part, row_part, sorted_part}
+use Rattle.amr_payload.specs.Octets.{entry_octet, interleaving_part, table_part}
 use Rattle.amr_payload.specs.Comparing.{Compares, Has, Differs, differs_from, part_of, piece_of}
 use Rattle.amr_payload.specs.declared.compare.Part.{Part}
 use Rattle.amr_payload.specs.declared.compare.Part.TheVariants.{Table, Checks, Frames, Row}

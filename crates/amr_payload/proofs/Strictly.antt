@@ -1,10 +1,10 @@
 -- What a strict format takes: the canonical payloads of the values that have its request and modes.
-use Rattle.std.proofs.Common.{◌≡◌, ℕ, zero, suc, ◌+◌, ◌-◌, ◌<◌, ◌≤◌, Bool, true, false, cond, not, ltb, nat_eq, List, [], ◌∷◌, ◌++◌, length, map, take, drop, get_or, sym, refl, ap, subst, ◌∙◌, arith, Option, Some, None, inl, inr}
-use Rattle.std.specs.Prelude.{◌↔◌, ◌&&◌, ◌⊎◌, find, Result, Ok, Err}
+use Rattle.std.proofs.Common.{◌≡◌, ℕ, suc, ◌+◌, ◌-◌, ◌<◌, ◌≤◌, Bool, true, false, cond, not, ltb, nat_eq, List, [], ◌∷◌, length, map, take, drop, get_or, sym, refl, ap, subst, ◌∙◌, arith, Option, Some, None, inl, inr}
+use Rattle.std.specs.Prelude.{◌↔◌, ◌&&◌, find, Result, Ok, Err}
 use Rattle.std.specs.Option.{option_map}
 use Rattle.std.specs.List.{AllByRecursion, range_with_len}
 use Rattle.std.proofs.lemmas.Bool.{eqb-true}
-use Rattle.std.proofs.lemmas.List.{append-nil, at_drop_more, length-drop, take_all}
+use Rattle.std.proofs.lemmas.List.{append-nil, at_drop_more, take_all}
 use Rattle.amr_bits.specs.Bits.{AreOctets}
 use Rattle.amr_bits.specs.Layout.{settled}
 use Rattle.amr_bits.proofs.Filled.{filled-lt}
@@ -20,15 +20,14 @@ use Rattle.amr_payload.proofs.Comparing.{all_dropped, found, own_front}
 use Rattle.amr_payload.specs.Checks.{own_checks}
 use Rattle.amr_oa.proofs.Pieces.{range_from}
 use Rattle.amr_payload.specs.Comparing.{differs_from, outside_in}
-use Rattle.amr_payload.specs.Taken.{HasModes, IsInFormat, IsRefusedIn, IsTaken, Takes}
+use Rattle.amr_payload.specs.Taken.{HasModes, IsInFormat, IsTaken, Takes}
 use Rattle.amr_toc.proofs.Marked.{either}
 use Rattle.amr_toc.proofs.Valued.{viewed_value}
 use Rattle.amr_toc.specs.declared.view.PayloadView.{PayloadView}
-use Rattle.amr_toc.specs.Told.{IsRefused, Reads, read_of}
-use Rattle.amr_toc.specs.Viewed.{format_of, octets_of, viewed, said}
+use Rattle.amr_toc.specs.Told.{Reads, read_of}
+use Rattle.amr_toc.specs.Viewed.{viewed}
 use Rattle.payload_laws.proofs.EachFormat.{in_grammar_of, read_exactly}
-use Rattle.payload_laws.proofs.OneValue.{one_value, one_checks}
-use Rattle.payload_laws.specs.Seen.{IsSeenAs}
+use Rattle.payload_laws.proofs.OneValue.{one_value}
 use Rattle.spec_payload.specs.declared.refusal.PayloadRefusal.{PayloadRefusal}
 use Rattle.spec_payload.specs.declared.refusal.PayloadRefusal.TheVariants as why
 use Rattle.spec_payload.specs.Grammar.{IsPayload, layout, text}

@@ -13,10 +13,11 @@ use Rattle.amr_frame.specs.Cells.{frame_of, held}
 use Rattle.amr_frame.specs.declared.cell.Cell.{Cell}
 use Rattle.amr_frame.specs.declared.profile.Profile.{Profile}
 use Rattle.amr_frame.specs.Frames.{Frame, no_data}
-use Rattle.amr_oa.specs.Written.{check_part, written_as}
+use Rattle.amr_oa.specs.Written.{check_part}
+use Rattle.amr_payload.specs.Octets.{written_as}
 use Rattle.amr_payload.proofs.Canonical.{same_long, text_is_written}
 use Rattle.amr_payload.proofs.Comparing.{found, found_none, found_some, has_none, ltb_is, own_front}
-use Rattle.amr_payload.specs.Comparing.{Compares, Has, Differs, IsPackedView, differs_from}
+use Rattle.amr_payload.specs.Comparing.{Compares, Has, IsPackedView, differs_from}
 use Rattle.amr_toc.specs.declared.view.PayloadView.{PayloadView}
 use Rattle.amr_toc.specs.Viewed.{format_of, frame_in, octets_of, said, viewed}
 use Rattle.payload_laws.proofs.EachFormat.{in_grammar_of}

@@ -3,7 +3,8 @@ use Rattle.std.specs.Prelude.{◌≡◌, ℕ, ◌+◌, true, false, cond, ◌&&�
 use Rattle.amr_frame.specs.declared.profile.Profile.{Profile}
 use Rattle.amr_frame.specs.First.{when}
 use Rattle.amr_frame.specs.Frames.{Frame, no_data}
-use Rattle.amr_oa.specs.Written.{check_part, checks_part, entry_octet, frame_part, octet_part, plain_part, row_part, table_part}
+use Rattle.amr_oa.specs.Written.{check_part, checks_part, frame_part, octet_part, plain_part, row_part}
+use Rattle.amr_payload.specs.Octets.{entry_octet, table_part}
 use Rattle.amr_payload.specs.declared.compare.Part.{Part}
 use Rattle.amr_payload.specs.declared.compare.Part.TheVariants.{Table, Checks, Frames, Row}
 use Rattle.amr_toc.specs.declared.view.PayloadView.{PayloadView}

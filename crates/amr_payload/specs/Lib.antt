@@ -1,3 +1,4 @@
 pub mod Checks
 pub mod Comparing
+pub mod Octets
 pub mod Taken

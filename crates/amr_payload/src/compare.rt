@@ -1,9 +1,10 @@
 //! Where an octet-aligned payload first differs from the canonical one of its value (RFC 4867, 4.4), as its octets go by.
 ghost use Rattle.std.specs.Prelude.{◌≡◌, ◌+◌, ◌<◌, ◌≤◌, ◌∷◌, [], length, nat_lt, slice_index};
 ghost use Rattle.amr_bits.specs.Bits.{bits_at, filled, octets_for};
-ghost use Rattle.amr_oa.specs.Written.{body_part, check_part, entry_octet, frame_part, header_part};
-ghost use Rattle.amr_oa.specs.Written.{interleaving_part, longest_of, octet_part, sorted_part, written_as};
+ghost use Rattle.amr_oa.specs.Written.{body_part, check_part, frame_part, longest_of, octet_part};
+ghost use Rattle.amr_oa.specs.Written.{sorted_part};
 ghost use Rattle.amr_payload.specs.Comparing.{Compares, IsAligned, part_of, piece_of};
+ghost use Rattle.amr_payload.specs.Octets.{entry_octet, header_part, interleaving_part, written_as};
 ghost use Rattle.amr_toc.specs.Viewed.{frame_in, octets_of, said, viewed};
 ghost use Rattle.spec_payload.specs.Grammar.{text};
 ghost use Rattle.spec_payload.specs.Strict.{first_difference};

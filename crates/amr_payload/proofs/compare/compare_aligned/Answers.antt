@@ -1,6 +1,7 @@
 use Rattle.std.proofs.Common.{◌++◌}
 use Rattle.std.specs.Prelude.{Ok}
-use Rattle.amr_oa.specs.Written.{body_part, checks_part, header_part, table_part}
+use Rattle.amr_oa.specs.Written.{body_part, checks_part}
+use Rattle.amr_payload.specs.Octets.{header_part, table_part}
 use Rattle.amr_payload.proofs.Comparing.{joined}
 use Rattle.amr_toc.specs.Viewed.{octets_of, said}
 use Rattle.amr_payload.proofs.compare.compare_aligned.Goals as goal

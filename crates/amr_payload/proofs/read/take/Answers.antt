@@ -1,4 +1,4 @@
-use Rattle.std.proofs.Common.{◌≡◌, ◌∙◌, Option, Some, None}
+use Rattle.std.proofs.Common.{◌∙◌, Some, None}
 use Rattle.amr_payload.proofs.Strictly.{plain_rules, refused_strictly, takes_refusal, takes_view}
 use Rattle.spec_payload.specs.Reading.{value_at}
 use Rattle.spec_payload.specs.Strict.{strict_refusal}
