@@ -3,7 +3,7 @@ use Rattle.std.proofs.Common.{◌≡◌, ℕ, ◌<◌, List, Option, Some, refl,
 use Rattle.std.specs.Io.KnownBytes.{Appends}
 use Rattle.amr_cli.proofs.Texts.{done_text, front_of, refused_text, whole_of}
 use Rattle.amr_cli.proofs.Verdicts.{ButNotes, Done, IsRefused, Memory, Outcome, Read, Refused, Write, faulty, outcome, rose_reading, rose_writing}
-use Rattle.amr_cli.specs.Jobs.{meaning_of}
+use Rattle.amr_cli.specs.Jobs.{job_in, meaning_in}
 use Rattle.amr_cli.specs.Noted.{lines_of, notes_at}
 use Rattle.amr_cli.specs.Runs.{DoneButNotes, Notes, NotesPart, PutsOut, Ran, Run, StopsReading, StopsWriting, engine_of}
 use Rattle.amr_cli.specs.Statuses.{EndsAs}
@@ -14,13 +14,14 @@ use Rattle.run_report.specs.Ends.{IsFinished}
 use Rattle.run_report.specs.Lines.{notes_of}
 use Rattle.run_report.specs.declared.end.RunEnd.{RunEnd}
 use Rattle.run_report.specs.declared.end.RunEnd.TheVariants as end
+use Rattle.spec_jobs.specs.Jobs.{Job as Asked, meaning_of}
 use Rattle.spec_run.specs.Flows.{Failed, FaultsOf}
 use Rattle.spec_run.specs.Meanings.{Leaves, Meaning, Served}
 
 -- what the run of a job did is what the job of the words means
-pub asked : (words : Option Job) (given job : Job) (r : Run) → words ≡ Some given → words ≡ Some job
-    → Ran (meaning_of given) r → Ran (meaning_of job) r
-asked words given job r e d ran = let same : given ≡ job = cc in subst (λ j. Ran (meaning_of j) r) same ran
+pub asked : (words : Option Asked) (given : Job) (job : Asked) (r : Run) → Some (job_in given) ≡ words
+    → words ≡ Some job → Ran (meaning_in given) r → Ran (meaning_of job) r
+asked words given job r d e ran = let same : job_in given ≡ job = cc in subst (λ j. Ran (meaning_of j) r) same ran
 
 module _ (m : Meaning) (r : Run) (ran : Ran m r) where
   what : Outcome ran.report.end r.notes r.status

@@ -1,3 +1,4 @@
 pub mod Clauses
+pub mod Plans
 pub mod Texts
 pub mod Verdicts

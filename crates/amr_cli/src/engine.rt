@@ -1,6 +1,6 @@
 // The engine of each command, and the lines that it notes.
 ghost use Rattle.std.specs.Prelude.{◌≡◌, false};
-ghost use Rattle.amr_cli.specs.Jobs.{IsServed, meaning_of};
+ghost use Rattle.amr_cli.specs.Jobs.{IsServed, meaning_in};
 ghost use Rattle.amr_cli.specs.Runs.{SameSink};
 ghost use Rattle.spec_run.specs.Meanings.{Works, work_of};
 
@@ -19,10 +19,10 @@ pub fn run_engine<I: Source, O: Sink>(
 ) -> RunReport
     requires served { IsServed job.now }
 
-    ensures works { Works (meaning_of job.now)
+    ensures works { Works (meaning_in job.now)
         (work_of I.Source O.Sink input.old input.new output.old output.new result) }
     ensures memory { result.end ≡ RunEnd.OutOfMemory → (output.new ≡ output.old)
-        × ((meaning_of job.now).reads_first ≡ false → input.new ≡ input.old) }
+        × ((meaning_in job.now).reads_first ≡ false → input.new ≡ input.old) }
     ensures same { SameSink O.Sink output.old output.new }
 {
     match job {
@@ -33,7 +33,7 @@ pub fn run_engine<I: Source, O: Sink>(
 
 /// The lines of its counts that a job notes.
 pub fn noted_lines(job: &Job) -> CountLines
-    ensures { result ≡ (meaning_of job.now).lines }
+    ensures { result ≡ (meaning_in job.now).lines }
 {
     match job {
         Job::RecordLog(_) => CountLines::Recording,

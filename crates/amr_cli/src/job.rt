@@ -1,6 +1,8 @@
-ghost use Rattle.std.specs.Prelude.{◌≡◌, IfSome};
-ghost use Rattle.amr_cli.specs.Jobs.{IsServed, job_of, record_job as job_for, stream_job as sent_for};
-ghost use Rattle.command_words.specs.Jobs.{AreSendable, AreWithin};
+ghost use Rattle.std.specs.Prelude.{◌≡◌, IfSome, option_map};
+ghost use Rattle.amr_cli.specs.Jobs.{IsServed, job_in, job_of};
+ghost use Rattle.command_words.specs.Asked.{AreSendable, AreWithin};
+ghost use Rattle.command_words.specs.Asked.{recording_of, sending_of};
+ghost use Rattle.spec_jobs.specs.Jobs.{RecordLog as Recorded, StreamFile as Sent, if_valid};
 ghost use Rattle.spec_words.specs.Words.{texts};
 
 use amr_frame::Profile;
@@ -20,7 +22,7 @@ pub enum Job {
 
 /// The job of the words; `None` exactly where they give none.
 pub fn read_words(words: &[String]) -> Option<Job>
-    ensures job { result ≡ job_of (texts words.now) }
+    ensures job { option_map job_in result ≡ job_of (texts words.now) }
     ensures served { IfSome result IsServed }
 {
     match read_command(words) {
@@ -34,13 +36,17 @@ pub fn read_words(words: &[String]) -> Option<Job>
 fn record_job(values: &RecordWords) -> Option<Job>
     requires within { AreWithin values.now }
 
-    ensures job { result ≡ job_for values.now }
+    ensures job { option_map job_in result
+        ≡ if_valid (Recorded (recording_of values.now) values.now.limit) }
     ensures served { IfSome result IsServed }
 {
-    let mut profile = Profile::plain(values.codec, values.channels);
-    profile.max_blocks = values.max_blocks;
     let plan = Plan {
-        profile,
+        profile: Profile {
+            strict: values.strict,
+            ..values
+                .fmtp
+                .profile(values.codec, values.channels, values.max_blocks)
+        },
         window: values.window,
         reach: values.reach,
     };
@@ -59,11 +65,12 @@ fn record_job(values: &RecordWords) -> Option<Job>
 fn stream_job(values: &StreamWords) -> Option<Job>
     requires within { AreSendable values.now }
 
-    ensures job { result ≡ sent_for values.now }
+    ensures job { option_map job_in result
+        ≡ if_valid (Sent (sending_of values.now) values.now.limit) }
     ensures served { IfSome result IsServed }
 {
     let plan = SendPlan {
-        profile: Profile::plain(values.codec, values.channels),
+        profile: values.fmtp.profile(values.codec, values.channels, 64),
         blocks: values.blocks,
         length: 1,
         repeat: 0,

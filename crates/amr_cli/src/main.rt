@@ -5,6 +5,8 @@
 mod engine;
 #[cfg(test)]
 mod fault_tests;
+#[cfg(test)]
+mod format_tests;
 mod host;
 mod job;
 mod run;

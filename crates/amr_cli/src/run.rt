@@ -1,6 +1,6 @@
 // The program over its words, its input, its output and its notes.
 ghost use Rattle.std.specs.Prelude.{◌≡◌, ◌↔◌, None, false};
-ghost use Rattle.amr_cli.specs.Jobs.{Asked, IsServed, job_of, meaning_of};
+ghost use Rattle.amr_cli.specs.Jobs.{Asked, IsServed, job_of, meaning_in};
 ghost use Rattle.amr_cli.specs.Noted.{Noted};
 ghost use Rattle.amr_cli.specs.Runs.{PutsOut, Ran, ReadFaults, SameSink};
 ghost use Rattle.amr_cli.specs.Runs.{TellsAll, WriteFaults, run_of};
@@ -72,10 +72,10 @@ fn run_job<I: Source, O: Sink, E: Sink>(
 ) -> Status
     requires served { IsServed job.now }
 
-    ensures ran { Ran (meaning_of job.now) (run_of I.Source O.Sink E.Sink
+    ensures ran { Ran (meaning_in job.now) (run_of I.Source O.Sink E.Sink
         input.old input.new output.old output.new notes.old notes.new result) }
     ensures memory { result ≡ Status.OutOfMemory → (output.new ≡ output.old)
-        × ((meaning_of job.now).reads_first ≡ false → input.new ≡ input.old) }
+        × ((meaning_in job.now).reads_first ≡ false → input.new ≡ input.old) }
     ensures same { SameSink O.Sink output.old output.new × SameSink E.Sink notes.old notes.new }
 {
     let report = run_engine(alloc, job, input, output);

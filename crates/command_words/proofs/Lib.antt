@@ -1,2 +1,4 @@
+pub mod Formats
 pub mod Numbers
 pub mod Pairs
+pub mod Plain

@@ -1,5 +1,4 @@
-pub mod Jobs
+pub mod Asked
+pub mod Built
 pub mod Options
 pub mod Rows
-pub mod Table
-pub mod Values

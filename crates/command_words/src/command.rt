@@ -1,15 +1,21 @@
-ghost use Rattle.std.specs.Prelude.{◌≡◌, IfSome};
-ghost use Rattle.spec_words.specs.Words.{texts};
+ghost use Rattle.std.specs.Prelude.{◌≡◌, ◌≤◌, IfSome, option_map};
+ghost use Rattle.command_words.specs.Asked.{AreSendable, AreWithin, HasValues};
+ghost use Rattle.command_words.specs.Asked.{asked_in, record_words, stream_words};
+ghost use Rattle.command_words.specs.Built.{built, commands};
+ghost use Rattle.command_words.specs.Options.{ArePlain};
 ghost use Rattle.command_words.specs.Rows.{given_in};
-ghost use Rattle.command_words.specs.Jobs.{asked_of, command_of, record_of, stream_of};
-ghost use Rattle.command_words.specs.Jobs.{AreSendable, AreWithin, HasValues};
+ghost use Rattle.media_params.specs.Fmtp.{AreShort, parameters};
+ghost use Rattle.spec_jobs.specs.Jobs.{asked_by, asked_of};
+ghost use Rattle.spec_jobs.specs.Plans.{group_of};
+ghost use Rattle.spec_words.specs.Words.{texts};
 
 use crate::options::Options;
 use crate::table::{
-    BLOCKS, CHANNELS, CMR, CODEC, LIMIT, MAX_BLOCKS, PT, REACH, RECORD, SEQ, SSRC, STREAM, TS,
+    BLOCKS, CHANNELS, CMR, LIMIT, MAX_BLOCKS, PT, REACH, RECORD, SEQ, SSRC, STREAM, STRICT, TS,
     WINDOW,
 };
 use amr_frame::Codec;
+use media_params::Fmtp;
 
 /// What the words ask of `record`, each in the range of its option. Whether the window has room for the blocks of a
 /// payload isn't tested here.
@@ -18,6 +24,8 @@ pub struct RecordWords {
     pub codec: Codec,
     /// The frames of one block, from 1 to 6.
     pub channels: u8,
+    /// The media parameters of the payloads.
+    pub fmtp: Fmtp,
     /// The one payload type that is read, from 0 to 127, or any.
     pub pt: Option<u8>,
     /// The most octets that are read, from 1 to 1,099,511,627,776.
@@ -28,6 +36,8 @@ pub struct RecordWords {
     pub reach: u32,
     /// The most blocks in a payload, from 1 to 64.
     pub max_blocks: u8,
+    /// Payloads that no sender by the standard sends are refused.
+    pub strict: bool,
 }
 
 /// What the words ask of `stream`, each in the range of its option. Whether the codec has the mode
@@ -37,6 +47,8 @@ pub struct StreamWords {
     pub codec: Codec,
     /// The frames of one block, from 1 to 6.
     pub channels: u8,
+    /// The media parameters of the payloads.
+    pub fmtp: Fmtp,
     /// The most octets that are read, from 1 to 1,099,511,627,776.
     pub limit: u64,
     /// The new blocks of a packet, from 1 to 64.
@@ -63,10 +75,10 @@ pub enum Command {
 }
 
 /// Reads the words of the command line, the first of which is the command. There is no job where there is no word, the
-/// command is unknown, the last option has no value, an option is unknown, not of the command or stands twice, a value
-/// isn't one of its option's, or the codec is missing.
+/// command is unknown, the codec is missing, the last option has no value, an option is unknown, not of the command or
+/// stands twice, or a value isn't one of its option's.
 pub fn read_command(words: &[String]) -> Option<Command>
-    ensures job { result ≡ command_of (texts words.now) }
+    ensures job { option_map asked_in result ≡ asked_by commands built (texts words.now) }
     ensures within { IfSome result HasValues }
 {
     let (command, rest) = words.split_first()?;
@@ -76,43 +88,60 @@ pub fn read_command(words: &[String]) -> Option<Command>
 
 /// What a command with these options asks.
 fn asked(command: &str, options: &Options<'_>) -> Option<Command>
-    ensures job { result ≡ asked_of command.now (given_in options.now) }
+    requires { ArePlain (given_in options.now) }
+    ensures job { option_map asked_in result
+        ≡ asked_of commands command.now (given_in options.now) options.now.codec }
     ensures within { IfSome result HasValues }
 {
+    let fmtp = options.fmtp()?;
     match command {
-        RECORD => Some(Command::Record(record(options)?)),
-        STREAM => Some(Command::Stream(stream(options)?)),
+        RECORD => Some(Command::Record(record(options, fmtp))),
+        STREAM => Some(Command::Stream(stream(options, fmtp))),
         _ => None,
     }
 }
 
-/// What these options ask of `record`; there has to be a codec.
-fn record(options: &Options<'_>) -> Option<RecordWords>
-    ensures job { result ≡ record_of (given_in options.now) }
-    ensures within { IfSome result AreWithin }
+/// What these options ask of `record`, beside these media parameters.
+fn record(options: &Options<'_>, fmtp: Fmtp) -> RecordWords
+    ensures values { result ≡ record_words options.now.codec (given_in options.now) fmtp }
+    ensures within { AreWithin result }
+    ensures short { AreShort fmtp.modes }
 {
-    let codec = options.codec(&CODEC)?;
-    let window = options.number_or_default(&WINDOW);
-    Some(RecordWords {
-        codec,
+    let window = options.number(&WINDOW).unwrap_or(group_of(&fmtp).max(256));
+    RecordWords {
+        codec: options.codec,
         channels: options.number_or_default(&CHANNELS) as u8,
+        fmtp,
         pt: options.number(&PT).map(|pt| pt as u8),
         limit: options.number_or_default(&LIMIT),
         window: window as u16,
         reach: options.number_or_default(&REACH) as u32,
         max_blocks: options.number(&MAX_BLOCKS).unwrap_or(window.min(64)) as u8,
-    })
+        strict: options.number_or_default(&STRICT) == 1,
+    }
 }
 
-/// What these options ask of `stream`; there has to be a codec.
-fn stream(options: &Options<'_>) -> Option<StreamWords>
-    ensures job { result ≡ stream_of (given_in options.now) }
-    ensures within { IfSome result AreSendable }
+/// The most blocks of a group that are used, 0 where there are no groups.
+fn group_of(fmtp: &Fmtp) -> u64
+    ensures blocks { result ≡ group_of (parameters fmtp.now) }
+    ensures most { result ≤ 1024 }
 {
-    let codec = options.codec(&CODEC)?;
-    Some(StreamWords {
-        codec,
+    match fmtp.interleaving {
+        Some(blocks) => u64::from(blocks).min(1024),
+        None => 0,
+    }
+}
+
+/// What these options ask of `stream`, beside these media parameters.
+fn stream(options: &Options<'_>, fmtp: Fmtp) -> StreamWords
+    ensures values { result ≡ stream_words options.now.codec (given_in options.now) fmtp }
+    ensures within { AreSendable result }
+    ensures short { AreShort fmtp.modes }
+{
+    StreamWords {
+        codec: options.codec,
         channels: options.number_or_default(&CHANNELS) as u8,
+        fmtp,
         limit: options.number_or_default(&LIMIT),
         blocks: options.number_or_default(&BLOCKS) as u8,
         cmr: options.number_or_default(&CMR) as u8,
@@ -120,5 +149,5 @@ fn stream(options: &Options<'_>) -> Option<StreamWords>
         ssrc: options.number_or_default(&SSRC) as u32,
         seq: options.number_or_default(&SEQ) as u16,
         ts: options.number_or_default(&TS) as u32,
-    })
+    }
 }

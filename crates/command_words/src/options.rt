@@ -1,41 +1,66 @@
-ghost use Rattle.std.specs.Prelude.{◌≡◌, IfSome, is_some};
+ghost use Rattle.std.specs.Prelude.{◌≡◌, IfSome, option_map};
+ghost use Rattle.media_params.specs.Fmtp.{parameters};
+ghost use Rattle.spec_words.specs.Given.{are_allowed, codec_of};
+ghost use Rattle.spec_words.specs.Given.{number_at, number_or_default, parameters_at};
+ghost use Rattle.spec_words.specs.Table.{fmtp};
 ghost use Rattle.spec_words.specs.Words.{texts, pairs};
-ghost use Rattle.command_words.specs.Table.{IsWithin, HasDefault};
-ghost use Rattle.command_words.specs.Rows.{row_of, given_in};
-ghost use Rattle.command_words.specs.Options.{are_allowed, are_options};
-ghost use Rattle.command_words.specs.Options.{codec_at, number_at, number_or_default};
+ghost use Rattle.command_words.specs.Built.{built};
+ghost use Rattle.command_words.specs.Options.{ArePlain};
+ghost use Rattle.command_words.specs.Rows.{HasDefault, IsWithin, given_in, row_of};
 
-use crate::table::{Row, is_allowed};
+use crate::table::{CODEC, FMTP, Row, is_allowed};
 use crate::values::read_codec;
 use crate::words::{all_differ, value_of};
 use amr_frame::Codec;
+use media_params::{Fmtp, read_fmtp};
 
-/// The options behind a command: the command may have each with its value, and none stands twice.
+/// The options behind a command, and the codec among them.
 #[derive(Clone, Copy)]
 pub struct Options<'a> {
-    words: &'a [String],
+    pub codec: Codec,
+    pub words: &'a [String],
 }
 
 impl<'a> Options<'a> {
-    /// The options that the words behind a command are. They are none where the last option has no
-    /// value, an option is unknown, not of the command or stands twice, or a value isn't one of its
-    /// option's.
+    /// The options that the words behind a command are. They are none where the codec is missing,
+    /// the last option has no value, an option is unknown, not of the command or stands twice, or a
+    /// value isn't one of its option's.
     pub fn of(command: &str, words: &'a [String]) -> Option<Options<'a>>
-        ensures allowed { is_some result ≡ are_options command.now (texts words.now) }
+        ensures codec { option_map (λ options. options.codec) result
+            ≡ codec_of built command.now (texts words.now) }
         ensures given { IfSome result (λ options. given_in options ≡ pairs (texts words.now)) }
+        ensures plain { IfSome result (λ options. ArePlain (given_in options)) }
     {
-        if words.len() % 2 == 0 && are_allowed(command, words) && all_differ(words) {
-            Some(Options { words })
+        let codec = read_codec(value_of(words, CODEC.name)?)?;
+        let options = Options { codec, words };
+        if words.len() % 2 == 0 && options.are_allowed(command) && all_differ(words) {
+            Some(options)
         } else {
             None
         }
     }
 
-    /// The codec behind the option of a row, where the option is given.
-    pub fn codec(&self, row: &Row) -> Option<Codec>
-        ensures { result ≡ codec_at (row_of row.now) (given_in self.now) }
+    /// Whether a command may have each of the options with its value.
+    fn are_allowed(&self, command: &str) -> bool
+        ensures { result ≡ are_allowed built command.now self.now.codec (given_in self.now) }
     {
-        read_codec(value_of(self.words, row.name)?)
+        let mut rest = self.words;
+        while let [name, value, more @ ..] = rest {
+            if !is_allowed(command, self, name.as_str(), value.as_str()) {
+                return false;
+            }
+            rest = more;
+        }
+        true
+    }
+
+    /// The media parameters that are given, those of the empty text where none are.
+    pub fn fmtp(&self) -> Option<Fmtp>
+        ensures { option_map parameters result
+            ≡ parameters_at self.now.codec fmtp (given_in self.now) }
+    {
+        let text = value_of(self.words, FMTP.name).unwrap_or("");
+        read_fmtp(self.codec, text.as_bytes()).ok()
     }
 
     /// The number behind the option of a row, where the option is given.
@@ -57,18 +82,4 @@ impl<'a> Options<'a> {
         };
         self.number(row).unwrap_or(default)
     }
-}
-
-/// Whether a command may have each option of the pairs with its value.
-fn are_allowed(command: &str, words: &[String]) -> bool
-    ensures { result ≡ are_allowed command.now (pairs (texts words.now)) }
-{
-    let mut rest = words;
-    while let [name, value, more @ ..] = rest {
-        if !is_allowed(command, name.as_str(), value.as_str()) {
-            return false;
-        }
-        rest = more;
-    }
-    true
 }

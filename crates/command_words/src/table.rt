@@ -1,8 +1,10 @@
 ghost use Rattle.std.specs.Prelude.{◌≡◌};
 ghost use Rattle.std.specs.List.{list_any};
-ghost use Rattle.command_words.specs.Table.{is_of, allows, is_allowed};
-ghost use Rattle.command_words.specs.Rows.{row_of};
+ghost use Rattle.command_words.specs.Options.{is_allowed};
+ghost use Rattle.command_words.specs.Rows.{given_in, row_of};
+ghost use Rattle.spec_words.specs.Given.{allows, is_of};
 
+use crate::options::Options;
 use crate::values::Values;
 
 /// A row of the table: an option, and what it may be.
@@ -41,6 +43,13 @@ pub const CHANNELS: Row = Row {
     ..CODEC
 };
 
+/// The media parameters of the payloads, as a text.
+pub const FMTP: Row = Row {
+    name: "--fmtp",
+    values: Values::Parameters,
+    ..CODEC
+};
+
 /// The one payload type that is read, or that is sent. Its default depends on the command.
 pub const PT: Row = Row {
     name: "--pt",
@@ -73,14 +82,13 @@ pub const MAX_BLOCKS: Row = Row {
     commands: &[RECORD],
 };
 
-/// The window, in blocks.
+/// The window, in blocks. Its default depends on the groups.
 pub const WINDOW: Row = Row {
     name: "--window",
     values: Values::Numbers {
         least: 1,
         greatest: 4096,
     },
-    default: Some(256),
     ..MAX_BLOCKS
 };
 
@@ -92,6 +100,17 @@ pub const REACH: Row = Row {
         greatest: 45_000,
     },
     default: Some(45_000),
+    ..MAX_BLOCKS
+};
+
+/// Whether payloads that no sender by the standard sends are refused: 1 where they are.
+pub const STRICT: Row = Row {
+    name: "--strict",
+    values: Values::Numbers {
+        least: 0,
+        greatest: 1,
+    },
+    default: Some(0),
     ..MAX_BLOCKS
 };
 
@@ -145,16 +164,17 @@ pub const BLOCKS: Row = Row {
 };
 
 /// All rows.
-const TABLE: [Row; 12] = [
-    CODEC, CHANNELS, PT, LIMIT, WINDOW, REACH, MAX_BLOCKS, BLOCKS, CMR, SSRC, SEQ, TS,
+const TABLE: [Row; 14] = [
+    CODEC, CHANNELS, FMTP, PT, LIMIT, WINDOW, REACH, MAX_BLOCKS, STRICT, BLOCKS, CMR, SSRC, SEQ, TS,
 ];
 
 impl Row {
     /// Whether a command may have this option with this value by this row.
-    fn allows(&self, command: &str, name: &str, value: &str) -> bool
-        ensures { result ≡ allows command.now name.now value.now (row_of self.now) }
+    fn allows(&self, command: &str, options: &Options<'_>, name: &str, value: &str) -> bool
+        ensures { result ≡ allows command.now options.now.codec (given_in options.now)
+            (record { option = name.now; value = value.now }) (row_of self.now) }
     {
-        self.name == name && self.is_of(command) && self.values.has(value)
+        self.name == name && self.is_of(command) && self.values.has(options, value)
     }
 
     /// Whether a command takes the option of this row.
@@ -165,16 +185,19 @@ impl Row {
     }
 }
 
-/// Whether a command may have this option with this value: a row of the table says so.
-pub fn is_allowed(command: &str, name: &str, value: &str) -> bool
-    ensures { result ≡ is_allowed command.now name.now value.now }
+/// Whether a command may have this option with this value beside the others: a row of the table says so.
+pub fn is_allowed(command: &str, options: &Options<'_>, name: &str, value: &str) -> bool
+    ensures { result ≡ is_allowed command.now options.now.codec (given_in options.now)
+        (record { option = name.now; value = value.now }) }
 {
-    one_allows(&TABLE, command, name, value)
+    one_allows(&TABLE, command, options, name, value)
 }
 
 /// Whether one of these rows says so.
-fn one_allows(rows: &[Row], command: &str, name: &str, value: &str) -> bool
-    ensures { result ≡ list_any (λ r. allows command.now name.now value.now (row_of r)) rows.now }
+fn one_allows(rows: &[Row], command: &str, options: &Options<'_>, name: &str, value: &str) -> bool
+    ensures { result ≡ list_any (λ r. allows command.now options.now.codec (given_in options.now)
+        (record { option = name.now; value = value.now }) (row_of r)) rows.now }
 {
-    rows.iter().any(|row| row.allows(command, name, value))
+    rows.iter()
+        .any(|row| row.allows(command, options, name, value))
 }

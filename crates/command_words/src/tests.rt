@@ -1,21 +1,39 @@
 use crate::{Command, RecordWords, StreamWords, read_command};
 use amr_frame::Codec;
+use amr_mode::ModeSet;
+use media_params::Fmtp;
 use std::alloc::{AllocError, Global};
 use std::test::Fail;
+
+// What the empty text of media parameters says.
+const PACKED: Fmtp = Fmtp {
+    octet_aligned: false,
+    modes: None,
+    period: 1,
+    capability: 1,
+    neighbor: false,
+    crc: false,
+    sorting: false,
+    interleaving: None,
+    max_red: None,
+};
 
 const PLAIN: RecordWords = RecordWords {
     codec: Codec::Amr,
     channels: 1,
+    fmtp: PACKED,
     pt: None,
     limit: 1_099_511_627_776,
     window: 256,
     reach: 45_000,
     max_blocks: 64,
+    strict: false,
 };
 
 const SENDING: StreamWords = StreamWords {
     codec: Codec::Amr,
     channels: 1,
+    fmtp: PACKED,
     pt: 96,
     limit: 1_099_511_627_776,
     blocks: 1,
@@ -29,6 +47,12 @@ const SENDING: StreamWords = StreamWords {
 const OTHERS: StreamWords = StreamWords {
     codec: Codec::AmrWb,
     channels: 6,
+    fmtp: Fmtp {
+        octet_aligned: true,
+        crc: true,
+        modes: Some(ModeSet { bits: 0x101 }),
+        ..PACKED
+    },
     limit: 4,
     blocks: 64,
     cmr: 8,
@@ -123,23 +147,62 @@ fn a_payload_has_no_more_blocks_than_the_window(rt: HostRuntime) -> Result<(), F
 }
 
 #[test]
+fn a_window_has_room_for_a_group(rt: HostRuntime) -> Result<(), Fail> {
+    let of_groups = |blocks: u16, window: u16, max_blocks: u8| RecordWords {
+        fmtp: Fmtp {
+            octet_aligned: true,
+            interleaving: Some(blocks),
+            ..PACKED
+        },
+        window,
+        max_blocks,
+        ..PLAIN
+    };
+    let rows = [
+        (
+            "record --codec AMR --fmtp interleaving=256",
+            of_groups(256, 256, 64),
+        ),
+        (
+            "record --codec AMR --fmtp interleaving=257",
+            of_groups(257, 257, 64),
+        ),
+        (
+            "record --fmtp interleaving=65535 --codec AMR",
+            of_groups(65_535, 1024, 64),
+        ),
+        // Whether a given window has room for a group isn't a question of the words.
+        (
+            "record --codec AMR --fmtp interleaving=30 --window 8",
+            of_groups(30, 8, 8),
+        ),
+        // A text that names no parameter.
+        ("record --codec AMR --fmtp --pt", PLAIN),
+    ];
+    assert_eq!(rt; first_wrong(rt.alloc(), &rows)?, None);
+    Ok(())
+}
+
+#[test]
 fn options_stand_in_any_order(rt: HostRuntime) -> Result<(), Fail> {
     let all = RecordWords {
         codec: Codec::AmrWb,
         channels: 2,
+        fmtp: PACKED,
         pt: Some(5),
         limit: 4,
         window: 6,
         reach: 2,
         max_blocks: 3,
+        strict: true,
     };
     let rows = [
         (
-            "record --reach 2 --max-blocks 3 --pt 5 --codec AMR-WB --limit 4 --window 6 --channels 2",
+            "record --reach 2 --max-blocks 3 --pt 5 --codec AMR-WB --strict 1 --limit 4 --window 6 --channels 2",
             all,
         ),
         (
-            "record --channels 2 --window 6 --limit 4 --codec AMR-WB --pt 5 --max-blocks 3 --reach 2",
+            "record --channels 2 --window 6 --limit 4 --strict 01 --codec AMR-WB --pt 5 --max-blocks 3 --reach 2",
             all,
         ),
     ];
@@ -173,7 +236,7 @@ fn a_file_is_sent_as_the_options_say(rt: HostRuntime) -> Result<(), Fail> {
             StreamWords { ts: 9, ..SENDING },
         ),
         (
-            "stream --ts 1 --seq 65535 --ssrc 4294967295 --cmr 8 --blocks 64 --limit 4 --pt 5 --channels 6 --codec AMR-WB",
+            "stream --ts 1 --seq 65535 --ssrc 4294967295 --cmr 8 --blocks 64 --limit 4 --pt 5 --channels 6 --fmtp crc=1;mode-set=8,0 --codec AMR-WB",
             OTHERS,
         ),
     ];
@@ -186,7 +249,7 @@ fn a_file_is_sent_as_the_options_say(rt: HostRuntime) -> Result<(), Fail> {
 
 #[test]
 fn other_words_give_no_job(rt: HostRuntime) -> Result<(), Fail> {
-    let lines: [&str; 52] = [
+    let lines: [&str; 63] = [
         "",
         "play --codec AMR",
         "Record --codec AMR",
@@ -239,6 +302,17 @@ fn other_words_give_no_job(rt: HostRuntime) -> Result<(), Fail> {
         "stream --codec AMR --ssrc 4294967296",
         "stream --codec AMR --seq 65536",
         "stream --codec AMR --seq 1 --seq 1",
+        "stream --codec AMR --length 2",
+        "stream --codec AMR --repeat 0",
+        "stream --codec AMR --skip 1",
+        "list --codec AMR",
+        "record --codec AMR --strict 2",
+        "stream --codec AMR --strict 0",
+        "record --codec AMR --fmtp crc=2",
+        "record --codec AMR --fmtp octet-align=0;crc=1",
+        "record --fmtp mode-set=8 --codec AMR",
+        "stream --codec AMR --fmtp crc=1;crc=1",
+        "stream --codec AMR --fmtp =1",
     ];
     for line in lines {
         assert_eq!(rt; read(rt.alloc(), line)?, None, "of {line}");

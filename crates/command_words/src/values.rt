@@ -1,12 +1,13 @@
 ghost use Rattle.std.specs.Prelude.{◌≡◌, IfSome};
 ghost use Rattle.std.specs.Str.{all_ascii_digits};
-ghost use Rattle.command_words.specs.declared.values.Values.TheVariants.{Numbers};
-ghost use Rattle.command_words.specs.Values.{IsAmong, is_among};
-ghost use Rattle.spec_words.specs.Numbers.{codec_named};
-ghost use Rattle.command_words.specs.Values.{number_among};
-ghost use Rattle.spec_words.specs.Numbers.{is_number, number_of};
+ghost use Rattle.command_words.specs.Rows.{IsAmong, given_in, values_of};
+ghost use Rattle.spec_words.specs.Given.{is_value, number_among};
+ghost use Rattle.spec_words.specs.Numbers.{codec_named, is_number, number_of};
+ghost use Rattle.spec_words.specs.Table.{Numbers};
 
+use crate::options::Options;
 use amr_frame::Codec;
+use media_params::read_fmtp;
 
 /// The values that an option may have.
 #[derive(Clone, Copy)]
@@ -15,27 +16,31 @@ pub enum Values {
     Codecs,
     /// The numbers from the least to the greatest, in decimal.
     Numbers { least: u64, greatest: u64 },
+    /// The texts of media parameters of the codec that is given (RFC 4867, 8.1 to 8.3).
+    Parameters,
 }
 
 impl Values {
-    /// Whether a text is one of the values.
-    pub fn has(&self, text: &str) -> bool
-        ensures { result ≡ is_among self.now text.now }
+    /// Whether a text is one of the values, beside the other options.
+    pub fn has(&self, options: &Options<'_>, text: &str) -> bool
+        ensures { result ≡ is_value options.now.codec (given_in options.now)
+            (values_of self.now) text.now }
     {
         match self {
             Values::Codecs => read_codec(text).is_some(),
             Values::Numbers { .. } => self.number(text).is_some(),
+            Values::Parameters => read_fmtp(options.codec, text.as_bytes()).is_ok(),
         }
     }
 
     /// The number that a text stands for, if it is one of the values.
     pub fn number(&self, text: &str) -> Option<u64>
-        ensures value { result ≡ number_among self.now text.now }
-        ensures within { IfSome result (IsAmong self.now) }
+        ensures value { result ≡ number_among (values_of self.now) text.now }
+        ensures within { IfSome result (IsAmong (values_of self.now)) }
     {
         match *self {
-            Values::Codecs => None,
             Values::Numbers { least, greatest } => number_between(text, least, greatest),
+            Values::Codecs | Values::Parameters => None,
         }
     }
 }

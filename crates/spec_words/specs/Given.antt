@@ -3,13 +3,14 @@
 use Rattle.std.specs.Prelude.{ℕ, Bool, false, ◌&&◌, ◌||◌, ◌%◌, nat_eq, List, [], length, Option, Some, None, is_some, option_and_then, unwrap_or, bytes_eq, codes}
 use Rattle.std.specs.List.{list_all, list_any}
 use Rattle.std.specs.Result.{result_ok}
+use Rattle.amr_frame.specs.First.{when}
 use Rattle.amr_frame.specs.declared.codec.Codec.{Codec}
 use Rattle.spec_media.specs.Params.{Parameters, is_allowed}
 use Rattle.spec_media.specs.Params as media
 use Rattle.spec_media.specs.Reading.{parameters_of}
 use Rattle.spec_modes.specs.ModeSets.{all_modes, has}
 use Rattle.spec_words.specs.Numbers.{between, codec_named, number_of}
-use Rattle.spec_words.specs.Table.{Row, Values, Codecs, Numbers, OneMode, ModeLists, Shows, codec, fmtp, table}
+use Rattle.spec_words.specs.Table.{Row, Values, Codecs, Numbers, OneMode, ModeLists, Shows, codec, fmtp}
 use Rattle.spec_words.specs.Table as option
 use Rattle.spec_words.specs.Words.{Pair, all_differ, pairs, value_of}
 
@@ -21,10 +22,20 @@ text_at r given = value_of r.option given
 abbrev pub codec_at : List Pair → Option Codec
 codec_at given = option_and_then codec_named (text_at codec given)
 
+-- the number that a text stands for, if it is one of the values of a row
+abbrev pub number_among : Values → List ℕ → Option ℕ
+number_among Codecs text = None
+number_among (Numbers least greatest) text =
+    option_and_then (between least greatest) (number_of text)
+number_among option.Parameters text = None
+number_among OneMode text = number_of text
+number_among ModeLists text = None
+number_among Shows text = None
+
 -- the number behind the option of a row; or the default of the row, or another where the row has
 -- none
 abbrev pub number_at : Row → List Pair → Option ℕ
-number_at r given = option_and_then number_of (text_at r given)
+number_at r given = option_and_then (number_among r.values) (text_at r given)
 
 abbrev pub number_or : ℕ → Row → List Pair → ℕ
 number_or default r given = unwrap_or (number_at r given) default
@@ -54,7 +65,7 @@ is_mode_left c (Some p) (Some n) = has (modes_or_all c p.modes) n
 abbrev pub is_value : Codec → List Pair → Values → List ℕ → Bool
 is_value c given Codecs text = is_some (codec_named text)
 is_value c given (Numbers least greatest) text =
-    is_some (option_and_then (between least greatest) (number_of text))
+    is_some (number_among (Numbers least greatest) text)
 is_value c given option.Parameters text = is_some (result_ok (parameters_of c text))
 is_value c given OneMode text = is_mode_left c (parameters_at c fmtp given) (number_of text)
 is_value c given ModeLists text = is_allowed c media.Modes text
@@ -69,8 +80,17 @@ abbrev pub allows : List ℕ → Codec → List Pair → Pair → Row → Bool
 allows command c given p r =
     bytes_eq r.option p.option && is_of command r && is_value c given r.values p.value
 
+-- whether each pair is allowed to the command by one of these rows
+abbrev pub are_allowed : List Row → List ℕ → Codec → List Pair → Bool
+are_allowed rows command c given =
+    list_all (λ p. list_any (allows command c given p) rows) given
+
 -- whether words are pairs each of which a row allows to the command, and no option stands twice
-abbrev pub are_options : List ℕ → Codec → List (List ℕ) → Bool
-are_options command c words = let given = pairs words in
-    nat_eq (length words % 2) 0
-    && list_all (λ p. list_any (allows command c given p) table) given && all_differ given
+abbrev pub are_options : List Row → List ℕ → Codec → List (List ℕ) → Bool
+are_options rows command c words = let given = pairs words in
+    nat_eq (length words % 2) 0 && are_allowed rows command c given && all_differ given
+
+-- the codec that words give, where they are options of the command by these rows
+abbrev pub codec_of : List Row → List ℕ → List (List ℕ) → Option Codec
+codec_of rows command words =
+    option_and_then (λ c. when (are_options rows command c words) c) (codec_at (pairs words))

@@ -1,5 +1,6 @@
 -- The table of the options of the command line: this project's own.
-use Rattle.std.specs.Prelude.{ℕ, List, [], ◌∷◌, Option, Some, None, codes}
+use Rattle.std.specs.Prelude.{ℕ, List, [], ◌∷◌, filter, Option, Some, None, bytes_eq, codes}
+use Rattle.std.specs.List.{list_any}
 
 -- the values that an option may have: the names of the codecs; the numbers from the least to the
 -- greatest; the texts of media parameters; one of the modes that those of `--fmtp` leave; the lists
@@ -18,6 +19,12 @@ pub record Row : Type 0 where
   pub values : Values
   pub default : Option ℕ
   pub commands : List (List ℕ)
+
+-- a row as these commands have it
+abbrev pub only : List (List ℕ) → Row → Row
+only commands r = record r {
+  commands = filter (λ name. list_any (bytes_eq name) commands) r.commands;
+}
 
 abbrev row : List ℕ → Values → Option ℕ → List (List ℕ) → Row
 row option values default commands =
@@ -177,3 +184,7 @@ table =
     codec ∷ channels ∷ fmtp ∷ to_fmtp ∷ pt ∷ to_pt ∷ window ∷ reach ∷ max_blocks
     ∷ strict ∷ limit ∷ offer_limit ∷ blocks ∷ group ∷ repeat ∷ skip ∷ cmr ∷ ssrc ∷ ts ∷ seq
     ∷ show ∷ start ∷ modes ∷ crc ∷ sorting ∷ interleaving ∷ port ∷ count ∷ seed ∷ []
+
+-- all commands
+abbrev pub commands : List (List ℕ)
+commands = answer_name ∷ with_a_format

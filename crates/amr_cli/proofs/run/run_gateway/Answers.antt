@@ -1,10 +1,11 @@
-use Rattle.std.proofs.Common.{◌∙◌, sym}
+use Rattle.std.proofs.Common.{◌∙◌, ap, option_map, sym}
 use Rattle.amr_cli.proofs.Clauses.{asked, leaves_input, notes_fault, notes_part, puts_out, read_always, stops_reading, stops_writing, whole_notes, write_always}
+use Rattle.amr_cli.specs.Jobs.{job_in}
 use Rattle.amr_cli.proofs.run.run_gateway.Goals as goal
 
 pub returns-in-Some-clause-run : goal.returns-in-Some-clause-run
 returns-in-Some-clause-run g c = (
-  λ job e. asked _ _ job _ (sym c.read_words.ensures.job ∙ c.in-Some.is) e c.run_job.ensures.ran,
+  λ job e. asked _ _ job _ (ap (option_map job_in) (sym c.in-Some.is) ∙ c.read_words.ensures.job) e c.run_job.ensures.ran,
   c.run_job.ensures.same.0,
   c.run_job.ensures.same.1,
 )

@@ -1,0 +1,17 @@
+use Rattle.std.proofs.Common.{◌∙◌, ap, sym, option_map}
+use Rattle.command_words.proofs.Formats.{recording, sending}
+use Rattle.command_words.specs.Rows.{given_in}
+use Rattle.media_params.specs.Fmtp.{parameters}
+use Rattle.command_words.proofs.command.asked.Goals as goal
+
+pub returns-in-record-clause-job : goal.returns-in-record-clause-job
+returns-in-record-clause-job c =
+    let read = sym c.fmtp.ensures ∙ ap (option_map parameters) c.in_ok-fmtp.was in
+    recording c.args.options.now.codec (given_in c.args.options.now) c.in_ok-fmtp.fmtp c.record.ensures.short read
+    c.args.command.now c.record.result c.in-record.is c.record.ensures.values
+
+pub returns-in-stream-clause-job : goal.returns-in-stream-clause-job
+returns-in-stream-clause-job c =
+    let read = sym c.fmtp.ensures ∙ ap (option_map parameters) c.in_ok-fmtp.was in
+    sending c.args.options.now.codec (given_in c.args.options.now) c.in_ok-fmtp.fmtp c.stream.ensures.short read
+    c.args.command.now c.stream.result c.requires c.in-stream.is c.stream.ensures.values

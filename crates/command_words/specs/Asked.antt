@@ -1,0 +1,90 @@
+-- What the words of the command line ask for, as the code has it.
+use Rattle.std.specs.Prelude.{false, List, IfSome}
+use Rattle.amr_frame.specs.declared.codec.Codec.{Codec}
+use Rattle.command_words.specs.declared.command.Command.{Command}
+use Rattle.command_words.specs.declared.command.Command.TheVariants.{Record, Stream}
+use Rattle.command_words.specs.declared.command.RecordWords.{RecordWords}
+use Rattle.command_words.specs.declared.command.StreamWords.{StreamWords}
+use Rattle.command_words.specs.Rows.{IsWithin}
+use Rattle.media_params.specs.Fmtp.{format_of, parameters}
+use Rattle.media_params.specs.declared.fmtp.Fmtp.{Fmtp}
+use Rattle.spec_jobs.specs.Jobs.{Job, RecordLog, StreamFile}
+use Rattle.spec_jobs.specs.Plans.{most_blocks, window_of}
+use Rattle.spec_record.specs.Recording.{Recording}
+use Rattle.spec_sending.specs.declared.plan.SendPlan.{SendPlan}
+use Rattle.spec_session.specs.Session.{rules_of}
+use Rattle.spec_words.specs.Given.{is_on, number_at, number_or, number_or_default}
+use Rattle.spec_words.specs.Table as option
+use Rattle.spec_words.specs.Words.{Pair}
+
+-- what is recorded by these values
+abbrev pub recording_of : RecordWords → Recording
+recording_of w =
+    let f = record (format_of w.fmtp w.codec w.channels w.max_blocks) { strict = w.strict } in
+    record { profile = f; asked = w.pt; rules = rules_of f w.window w.reach }
+
+-- how a file is sent by these values: each packet carries consecutive blocks, each block once, and
+-- none is left out
+abbrev pub sending_of : StreamWords → SendPlan
+sending_of w = record {
+  profile = format_of w.fmtp w.codec w.channels 64;
+  blocks = w.blocks;
+  length = 1;
+  repeat = 0;
+  skip_empty = false;
+  cmr = w.cmr;
+  pt = w.pt;
+  ssrc = w.ssrc;
+  seq = w.seq;
+  ts = w.ts;
+}
+
+-- the job that a command stands for
+abbrev pub asked_in : Command → Job
+asked_in (Record w) = RecordLog (recording_of w) w.limit
+asked_in (Stream w) = StreamFile (sending_of w) w.limit
+
+-- the values that options give `record` and `stream`, beside these media parameters
+abbrev pub record_words : Codec → List Pair → Fmtp → RecordWords
+record_words c given f = record {
+  codec = c;
+  channels = number_or_default option.channels given;
+  fmtp = f;
+  pt = number_at option.pt given;
+  limit = number_or_default option.limit given;
+  window = window_of given (parameters f);
+  reach = number_or_default option.reach given;
+  max_blocks = most_blocks given (parameters f);
+  strict = is_on option.strict given;
+}
+
+abbrev pub stream_words : Codec → List Pair → Fmtp → StreamWords
+stream_words c given f = record {
+  codec = c;
+  channels = number_or_default option.channels given;
+  fmtp = f;
+  limit = number_or_default option.limit given;
+  blocks = number_or_default option.blocks given;
+  cmr = number_or_default option.cmr given;
+  pt = number_or 96 option.pt given;
+  ssrc = number_or_default option.ssrc given;
+  seq = number_or_default option.seq given;
+  ts = number_or_default option.ts given;
+}
+
+-- each value is in the range of its option
+abbrev pub AreWithin : RecordWords → Type 0
+AreWithin w =
+    IsWithin option.channels w.channels × IfSome w.pt (IsWithin option.pt)
+    × IsWithin option.limit w.limit × IsWithin option.window w.window
+    × IsWithin option.reach w.reach × IsWithin option.max_blocks w.max_blocks
+
+abbrev pub AreSendable : StreamWords → Type 0
+AreSendable w =
+    IsWithin option.channels w.channels × IsWithin option.limit w.limit
+    × IsWithin option.blocks w.blocks × IsWithin option.cmr w.cmr × IsWithin option.pt w.pt
+    × IsWithin option.ssrc w.ssrc × IsWithin option.seq w.seq × IsWithin option.ts w.ts
+
+abbrev pub HasValues : Command → Type 0
+HasValues (Record w) = AreWithin w
+HasValues (Stream w) = AreSendable w
