@@ -7,14 +7,15 @@ _amrgate() {
     return
   fi
   case ${COMP_WORDS[1]} in
-    record) names=(--codec --channels --pt --window --reach --max-blocks --limit) ;;
-    stream) names=(--codec --channels --pt --blocks --cmr --ssrc --seq --ts --limit) ;;
+    record) names=(--codec --channels --fmtp --strict --pt --window --reach --max-blocks --limit) ;;
+    stream) names=(--codec --channels --fmtp --pt --blocks --cmr --ssrc --seq --ts --limit) ;;
     *) return ;;
   esac
   if ((COMP_CWORD % 2 == 1)); then
     case $before in
       --codec) left=(AMR AMR-WB) ;;
       --channels) left=(1 2 3 4 5 6) ;;
+      --strict) left=(0 1) ;;
     esac
   else
     given=" ${COMP_WORDS[*]:2:COMP_CWORD-2} "
