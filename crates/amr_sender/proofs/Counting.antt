@@ -54,13 +54,13 @@ pieces_more m n q h c some =
     let e : m + n - 1 ≡ (q + 1) * n + (h - 1) = omega (arith, a, t, some, l) in
     ap (λ k. k / n) e ∙ div-mul-add (q + 1) n (h - 1) (omega (arith, l))
 
--- the first block held is the one behind the whole packets
-pub first_is : (s : SendPlan) (m q h : ℕ) → IsPlain s → Counted m s.blocks q h → first_held s m ≡ q * s.blocks
+-- the first block held is the one behind the whole groups
+pub first_is : (s : SendPlan) (m q h : ℕ) → IsPlain s → Counted m (s.blocks * s.length) q h
+    → first_held s m ≡ q * (s.blocks * s.length)
 first_is s m q h plain c =
     let none = plain.repeat in
-    let one : s.blocks * s.length ≡ s.blocks = ap (λ l. s.blocks * l) plain.length ∙ omega arith in
-    let grouped : m / (s.blocks * s.length) * (s.blocks * s.length) ≡ q * s.blocks =
-    ap (λ k. m / k * k) one ∙ ap (λ k. k * s.blocks) c.whole in
+    let grouped : m / (s.blocks * s.length) * (s.blocks * s.length) ≡ q * (s.blocks * s.length) =
+    ap (λ k. k * (s.blocks * s.length)) c.whole in
     omega (arith, none, grouped)
 
 pub none_behind : (n : ℕ) → 1 ≤ n → 0 ≡ 0 % n

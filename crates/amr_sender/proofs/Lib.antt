@@ -1,9 +1,9 @@
 pub mod Adding
 pub mod Begun
-pub mod Blocks
 pub mod Counting
 pub mod Headed
 pub mod Plans
+pub mod Putting
 pub mod Results
 pub mod Steps
 pub mod Taken

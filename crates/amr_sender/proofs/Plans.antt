@@ -1,6 +1,7 @@
 -- What a plan that the sender takes has, and what its packets can say.
-use Rattle.std.proofs.Common.{◌≡◌, refl, ap, Option, Some, None, ℕ, zero, suc, ◌*◌, ◌≤◌, ◌<◌, List, [], ◌∷◌, length, Bool, true, false, not, ◌||◌, ◌&&◌, eqb, ltb, arith, get_or, ◌∙◌}
+use Rattle.std.proofs.Common.{◌≡◌, refl, ap, Option, Some, None, ℕ, zero, suc, ◌*◌, ◌≤◌, ◌<◌, min, inl, inr, List, [], ◌∷◌, length, Bool, true, false, not, ◌||◌, ◌&&◌, eqb, ltb, arith, get_or, ◌∙◌}
 use Rattle.std.proofs.lemmas.List.{length-map}
+use Rattle.std.proofs.lemmas.Nat.{mul-le}
 use Rattle.std.specs.Prelude.{option_map, is_some}
 use Rattle.std.specs.List.{AllByRecursion}
 use Rattle.amr_frame.specs.Blocks.{frames_of}
@@ -10,9 +11,12 @@ use Rattle.amr_frame.specs.declared.codec.Codec.{Codec}
 use Rattle.amr_frame.specs.First.{when}
 use Rattle.amr_frame.specs.Frames.{Frame, IsFrame}
 use Rattle.amr_frame.specs.declared.profile.ProfileFault.{ProfileFault}
-use Rattle.amr_frame.specs.Profiles.{IsValid, group_bound, profile_fault}
+use Rattle.amr_frame.specs.Profiles.{IsValid, group_bound, is_empty_group, profile_fault}
+use Rattle.amr_frame.specs.declared.profile.Profile.{Profile}
+use Rattle.amr_frame.specs.declared.profile.ProfileFault.TheVariants as format
 use Rattle.amr_frame.proofs.FirstLemmas.{first_none, or_false, when_none}
-use Rattle.amr_sender.specs.Packets.{CanCarry, said}
+use Rattle.amr_sender.specs.Packets.{CanCarry, FitsPlan, said}
+use Rattle.amr_sender.specs.declared.packet.Head.{Head}
 use Rattle.amr_sender.specs.Plans.{Serves}
 use Rattle.spec_payload.specs.Values.{FitsGroup, IsValue}
 use Rattle.spec_sending.specs.Plans.{carried_blocks, grouped_blocks, is_request, is_speech, passes_group}
@@ -37,23 +41,52 @@ first_true : (a b : Bool) → not (a && b) ≡ false → a ≡ true
 first_true true b e = refl
 first_true false b e = absurd cc
 
--- packets of consecutive blocks fit the groups of the format
-fits : (o : Option ℕ) (s : SendPlan) (n : ℕ) (frames : List Frame) → passes_group o s ≡ false → s.length ≡ 1
-    → n ≤ s.blocks
-    → FitsGroup o n (said s frames)
-fits None s n frames e one le = (refl, refl)
-fits (Some most) s n frames e one le =
-    let b = within most (grouped_blocks s) (or_false (ltb most (grouped_blocks s)) (ltb most (carried_blocks s)) e).0 in
-    let g : grouped_blocks s ≡ s.blocks * 1 = ap (λ l. s.blocks * l) one in
-    (omega arith, omega arith, omega arith, omega (arith, b, g))
+-- packets of consecutive blocks, and those of groups, fit the groups of the format
+first_false : (a : Bool) → (a && true) ≡ false → a ≡ false
+first_false true e = e
+first_false false e = refl
+
+fits_group : (s : SendPlan) (most n : ℕ) (head : Head) (frames : List Frame) → s.blocks * s.length ≤ most
+    → 1 ≤ s.length → s.length ≤ 16 → n ≤ s.blocks → FitsPlan s head → FitsGroup (Some most) n (said s head frames)
+fits_group s most n head frames b some few le (inl one) =
+    let stride = one.0 in
+    let index = one.1 in
+    let m = mul-le s.blocks 1 s.blocks s.length (omega arith) some in
+    let p : n * head.stride ≡ n * 1 = ap (λ k. n * k) stride in
+    (omega (arith, stride), omega (arith, stride), omega (arith, stride, index), omega (arith, b, m, le, p))
+fits_group s most n head frames b some few le (inr turn) =
+    let stride = turn.0 in
+    let index = turn.1 in
+    let m = mul-le n s.length s.blocks s.length le (omega arith) in
+    let p : n * head.stride ≡ n * s.length = ap (λ k. n * k) stride in
+    (omega (arith, stride, some), omega (arith, stride, few), omega (arith, stride, index), omega (arith, b, m, p))
+
+fits : (o : Option ℕ) (s : SendPlan) (n : ℕ) (head : Head) (frames : List Frame)
+    → (ltb 1 s.length && not (is_some o)) ≡ false → passes_group (group_bound o) s ≡ false
+    → 1 ≤ s.length → s.length ≤ 16 → n ≤ s.blocks → FitsPlan s head
+    → FitsGroup (group_bound o) n (said s head frames)
+fits None s n head frames alone e some few le (inl one) = one
+fits None s n head frames alone e some few le (inr turn) =
+    let single : ltb 1 s.length ≡ false = first_false (ltb 1 s.length) alone in
+    let most = within 1 s.length single in
+    let stride = turn.0 in
+    let index = turn.1 in
+    (omega (arith, stride, most, some), omega (arith, index, most))
+fits (Some i) s n head frames alone e some few le turn =
+    let most = min i 1024 in
+    fits_group s most n head frames
+    (within most (grouped_blocks s) (or_false (ltb most (grouped_blocks s)) (ltb most (carried_blocks s)) e).0)
+    some few le turn
 
 -- what a plan that the sender takes has
 pub record Facts (s : SendPlan) : Type 0 where
   pub format : IsValid s.profile
   pub blocks : 1 ≤ s.blocks
   pub most : s.blocks ≤ s.profile.max_blocks
-  pub group : (n : ℕ) (frames : List Frame) → n ≤ s.blocks →
-      FitsGroup (group_bound s.profile.interleaving) n (said s frames)
+  pub length : 1 ≤ s.length
+  pub turns : s.length ≤ 16
+  pub group : (n : ℕ) (head : Head) (frames : List Frame) → n ≤ s.blocks → FitsPlan s head
+      → FitsGroup (group_bound s.profile.interleaving) n (said s head frames)
   pub request : s.cmr < 16
   pub number : s.pt ≤ 127
 
@@ -76,21 +109,26 @@ facts s h =
     let f8 = first_none (when (ltb 127 s.pt) fault.Number) _ f7.1 in
     let b = or_false (eqb s.blocks 0) (ltb s.profile.max_blocks (carried_blocks s)) (when_none few fault.Blocks f2.0) in
     let most = within s.profile.max_blocks (carried_blocks s) b.1 in
+    let l = or_false (eqb s.length 0) (ltb 16 s.length) (when_none far fault.Length f3.0) in
+    let some = above s.length l.0 in
+    let few_turns = within 16 s.length l.1 in
     let speech = eqb s.cmr 15 || is_speech (kind_in s.profile.codec s.cmr) in
     record {
       format = is_none (profile_fault s.profile) f1.0;
       blocks = above s.blocks b.0;
       most = omega (arith, most);
-      group = λ n frames le. fits (group_bound s.profile.interleaving) s n frames
-          (when_none group fault.Group f5.0) h.plain.length le;
+      length = some;
+      turns = few_turns;
+      group = λ n head frames le turn. fits s.profile.interleaving s n head frames
+          (when_none alone fault.Length f4.0) (when_none group fault.Group f5.0) some few_turns le turn;
       request = below s.cmr 16 (first_true (ltb s.cmr 16) speech (when_none asks fault.Request f7.0));
       number = within 127 s.pt (when_none (ltb 127 s.pt) fault.Number f8.0);
     }
 
 -- the blocks of one packet are a value of the format
-pub value : (s : SendPlan) (cells : List Cell) → Serves s → (h : CanCarry s cells)
-    → IsValue s.profile (said s (frames_of cells))
-value s cells plan h =
+pub value : (s : SendPlan) (head : Head) (cells : List Cell) → Serves s → (h : CanCarry s head cells)
+    → IsValue s.profile (said s head (frames_of cells))
+value s head cells plan h =
     let k = facts s plan in
     let le = h.most in
     let most = k.most in
@@ -100,9 +138,33 @@ value s cells plan h =
       some = h.some;
       most = omega (arith, le, most);
       whole = length-map cells frame_of ∙ h.blocks.whole;
-      group = k.group h.count (frames_of cells) h.most;
+      group = k.group h.count head (frames_of cells) h.most h.turn;
       frames = h.blocks.frames;
     }
+
+-- a packet has at most 64 blocks
+most_of : (p : Profile) → IsValid p → p.max_blocks ≤ 64
+most_of p valid =
+    let f1 = first_none (when (eqb p.channels 0 || ltb 6 p.channels) format.Channels) _ valid in
+    let f2 = first_none (when ((p.crc || p.sorting || is_some p.interleaving) && not p.octet_aligned) format.NeedsAlignment) _ f1.1 in
+    let f3 = first_none (when (is_empty_group p.interleaving) format.Interleaving) _ f2.1 in
+    let f4 = first_none (when (eqb p.max_blocks 0 || ltb 64 p.max_blocks) format.MaxBlocks) _ f3.1 in
+    within 64 p.max_blocks (or_false (eqb p.max_blocks 0) (ltb 64 p.max_blocks)
+    (when_none (eqb p.max_blocks 0 || ltb 64 p.max_blocks) format.MaxBlocks f4.0)).1
+
+pub most_blocks : (s : SendPlan) → Serves s → s.blocks ≤ 64
+most_blocks s plan =
+    let k = facts s plan in
+    let most = k.most in
+    let bound = most_of s.profile k.format in
+    omega (arith, most, bound)
+
+-- a group has a block
+pub some_group : (s : SendPlan) → Serves s → 1 ≤ s.blocks * s.length
+some_group s plan =
+    let k = facts s plan in
+    let m = mul-le 1 1 s.blocks s.length k.blocks k.length in
+    omega (arith, m)
 
 -- the type of a frame among others
 pub type_at : (codec : Codec) (xs : List Cell) (i : ℕ) (d : Cell) → AllByRecursion (IsFrame codec) (frames_of xs)

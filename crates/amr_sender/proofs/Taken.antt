@@ -1,25 +1,32 @@
--- What a block more makes of a sender, and what goes out by it.
-use Rattle.std.proofs.Common.{◌≡◌, ℕ, zero, suc, ◌+◌, ◌-◌, ◌*◌, ◌/◌, ◌%◌, ◌<◌, ◌≤◌, Bool, true, false, not, cond, List, [], ◌∷◌, ◌++◌, length, drop, flat_map, sym, refl, ap, ◌∙◌, arith, append-nil, inr}
-use Rattle.std.specs.Prelude.{◌&&◌, nat_eq, nat_lt}
-use Rattle.std.proofs.lemmas.List.{drop_all, drop-append-le, get_or_append_left, get_or_at, length-append}
-use Rattle.std.proofs.lemmas.Grind.{flat_map-append}
+-- What a block more makes of a sender, what goes out by it, and what goes out at the end.
+use Rattle.std.proofs.Common.{◌≡◌, ℕ, zero, suc, ◌+◌, ◌-◌, ◌*◌, ◌/◌, ◌%◌, ◌<◌, ◌≤◌, true, false, List, [], ◌∷◌, ◌++◌, length, map, drop, sym, refl, ap, ◌∙◌, arith, append-nil}
+use Rattle.std.specs.Prelude.{◌&&◌, nat_lt}
+use Rattle.std.proofs.lemmas.List.{drop_all, drop-append-le, get_or_append_left, get_or_at, length-append, length-drop}
+use Rattle.std.proofs.lemmas.List.FromFn.{length-map-range_with_len}
 use Rattle.std.proofs.lemmas.Nat.{div-mul-add}
+use Rattle.amr_frame.specs.Blocks.{GotBlocks, GotPrefix}
 use Rattle.amr_frame.specs.Frames.{Frame}
-use Rattle.amr_sender.proofs.Begun.{begun_no_more, begun_one_more, packet_at, packet_made, sent_no_more, sent_one_more, length_begun}
-use Rattle.amr_sender.proofs.Counting.{Counted, counted, first_is, held_more, pieces_more, pieces_whole, whole_more}
-use Rattle.amr_sender.proofs.Plans.{facts}
-use Rattle.amr_sender.specs.Packets.{packet_with, speech_before}
+use Rattle.amr_sender.proofs.Begun.{Numbered, Stands, begun_group_more, begun_no_more, length_begun, sent_rest_more, turns_of}
+use Rattle.amr_sender.proofs.Counting.{Counted, counted, first_is, held_more, whole_more}
+use Rattle.amr_sender.proofs.Plans.{facts, some_group}
+use Rattle.amr_sender.specs.Held.{held_packet, held_rests, held_turns, rest_in, rests_held}
+use Rattle.amr_sender.specs.Packets.{speech_before}
 use Rattle.amr_sender.specs.Plans.{Serves}
 use Rattle.amr_sender.specs.Sender.{StandsFor, View, first_held}
-use Rattle.amr_sender.specs.Sends.{Finishes, FinishesPart, Takes, TakesPart, Sends, SendsPart}
-use Rattle.amr_sender.specs.declared.packet.Head.{Head}
+use Rattle.amr_sender.specs.Sends.{Finishes, FinishesPart, Takes, TakesPart, Sends}
+use Rattle.amr_sender.specs.declared.packet.Behind.{Behind}
 use Rattle.rtp_packet.specs.declared.packet_sink.PacketSink as packets
 use Rattle.rtp_packet.specs.Written.{written}
-use Rattle.spec_packet.specs.Rtp.{RtpPacket}
-use Rattle.spec_sending.specs.Sending.{begun, block_of, has_speech, marks, sent}
+use Rattle.spec_sending.specs.Portions.{grouped}
+use Rattle.spec_sending.specs.Sending.{begun, block_of, has_speech, sent}
 use Rattle.spec_sending.specs.declared.plan.SendPlan.{SendPlan}
 
--- ---- markers
+pub numbered : (s : SendPlan) → Serves s → Numbered s
+numbered s plan =
+    let k = facts s plan in
+    record { blocks = k.blocks; turns = k.length; plain = plan.plain }
+
+-- ---- speech before a block
 
 before_stays : (s : SendPlan) (b : List (List Frame)) (x : List Frame) (n : ℕ) → n ≤ length b
     → speech_before s (b ++ x ∷ []) n ≡ speech_before s b n
@@ -27,13 +34,6 @@ before_stays s b x zero le = refl
 before_stays s b x (suc n) le =
     ap (λ block. nat_lt 0 (suc n) && has_speech s.profile.codec block)
     (get_or_append_left b (x ∷ []) [] (suc n - 1) (omega arith))
-
-marks_stay : (s : SendPlan) (b : List (List Frame)) (x : List Frame) (n : ℕ) → n < length b
-    → marks s (b ++ x ∷ []) n ≡ marks s b n
-marks_stay s b x n lt =
-    let now = get_or_append_left b (x ∷ []) [] n lt in
-    let before = before_stays s b x n (omega arith) in
-    λ i. has_speech s.profile.codec (now i) && not (before i)
 
 -- the last block's speech is known
 spoken_is : (s : SendPlan) (b : List (List Frame)) (x : List Frame)
@@ -46,218 +46,167 @@ spoken_is s b x =
     (λ i. some i && has_speech s.profile.codec (block_of all (place i)))
     ∙ ap (has_speech s.profile.codec) (get_or_at b x [] [] (length b) refl)
 
--- the marker of the next packet, with a block more
-pub marker_is : (v : View) (b : List (List Frame)) (x : List Frame) (q h : ℕ) → Serves v.plan → StandsFor v b
-    → Counted (length b) v.plan.blocks q h
-    → cond (nat_eq h 0) (has_speech v.plan.profile.codec x && not v.spoken) v.marked ≡ marks v.plan (b ++ x ∷ [])
-    (q * v.plan.blocks)
-marker_is v b x q zero plan st c =
-    let s = v.plan in
-    let a = c.all in
-    let here : length b ≡ q * s.blocks = omega (arith, a) in
-    let block : x ≡ block_of (b ++ x ∷ []) (length b) = sym (get_or_at b x [] [] (length b) refl) in
-    let before = st.spoken ∙ sym (before_stays s b x (length b) (omega arith)) in
-    (λ i. has_speech s.profile.codec (block i) && not (before i)) ∙ ap (marks s (b ++ x ∷ [])) here
-marker_is v b x q (suc h) plan st c =
-    let s = v.plan in
-    let a = c.all in
-    let first = first_is s (length b) q (suc h) plan.plain c in
-    let later : nat_eq (suc h) 0 ≡ false = grind arith in
-    let lt : first_held s (length b) < length b = omega (arith, first, a) in
-    ap (λ z. cond z (has_speech s.profile.codec x && not v.spoken) v.marked) later
-    ∙ st.marked lt
-    ∙ ap (marks s b) first
-    ∙ sym (marks_stay s b x (q * s.blocks) (omega (arith, a)))
+-- ---- what is held
 
--- ---- frames held
+-- where the first block held stands, and how many are held
+pub record Held (v : View) (b : List (List Frame)) (q h : ℕ) : Type 0 where
+  pub counted : Counted (length b) (v.plan.blocks * v.plan.length) q h
+  pub base : first_held v.plan (length b) ≡ q * (v.plan.blocks * v.plan.length)
+  pub size : length v.held ≡ h
 
-held_is : (b : List (List Frame)) (x frames : List Frame) (n : ℕ) → n ≤ length b → frames ≡ flat_map (λ x. x) (drop n b)
-    → frames ++ x ≡ flat_map (λ x. x) (drop n (b ++ x ∷ []))
-held_is b x frames n le is =
-    let some = drop n b in
-    ap (λ l. l ++ x) is
-    ∙ ap (λ l. flat_map (λ x. x) some ++ l) (sym (append-nil x))
-    ∙ sym (flat_map-append (λ x. x) some (x ∷ []))
-    ∙ ap (flat_map (λ x. x)) (sym (drop-append-le n b (x ∷ []) le))
+pub held_so : (v : View) (b : List (List Frame)) → Serves v.plan → StandsFor v b
+    → Held v b (length b / (v.plan.blocks * v.plan.length)) (length b % (v.plan.blocks * v.plan.length))
+held_so v b plan st =
+    let s = v.plan in
+    let n = s.blocks * s.length in
+    let c = counted (length b) n (length b % n) (some_group s plan) refl in
+    let base = first_is s (length b) (length b / n) (length b % n) plan.plain c in
+    let a = c.all in
+    let len = ap length st.held ∙ length-drop (first_held s (length b)) b in
+    record { counted = c; base = base; size = omega (arith, len, base, a) }
+
+more_held : (v : View) (b : List (List Frame)) (x : List Frame) (q h : ℕ) → StandsFor v b → Held v b q h
+    → v.held ++ x ∷ [] ≡ drop (q * (v.plan.blocks * v.plan.length)) (b ++ x ∷ [])
+more_held v b x q h st k =
+    let base = q * (v.plan.blocks * v.plan.length) in
+    let a = k.counted.all in
+    ap (λ l. l ++ x ∷ []) (st.held ∙ ap (λ n. drop n b) k.base)
+    ∙ sym (drop-append-le base b (x ∷ []) (let e : base ≤ length b = omega (arith, a) in e))
+
+-- what the sender tells of what stands before the blocks held, with one more or not
+pub record Tells (v : View) (y : Behind) (size total : ℕ) : Type 0 where
+  pub spoken : y.spoken ≡ v.spoken
+  pub packets : y.packets ≡ v.packets
+  pub blocks : y.blocks + size ≡ total
+
+begun_number : (v : View) (b : List (List Frame)) (y : Behind) → Serves v.plan → StandsFor v b → y.packets ≡ v.packets
+    → y.packets ≡ turns_of v.plan (length b)
+begun_number v b y plan st e = e ∙ st.packets ∙ length_begun v.plan b (numbered v.plan plan)
+
+stands_more : (v : View) (b : List (List Frame)) (x : List Frame) (q h : ℕ) (y : Behind) → Serves v.plan → StandsFor v b
+    → Held v b q h → Tells v y (h + 1) (v.blocks + 1)
+    → Stands v.plan (b ++ x ∷ []) (q * (v.plan.blocks * v.plan.length)) (q * v.plan.length) y (v.held ++ x ∷ [])
+stands_more v b x q h y plan st k t =
+    let s = v.plan in
+    let base = q * (s.blocks * s.length) in
+    let a = k.counted.all in
+    let blocks = st.blocks in
+    let told = t.blocks in
+    record {
+      blocks_are = more_held v b x q h st k;
+      packets = begun_number v b y plan st t.packets ∙ ap (λ g. g * s.length) k.counted.whole;
+      blocks = omega (arith, a, blocks, told);
+      spoken = t.spoken ∙ st.spoken ∙ ap (speech_before s b) k.base
+          ∙ sym (before_stays s b x base (let e : base ≤ length b = omega (arith, a) in e));
+    }
 
 -- ---- a block is held
 
 -- the sender with a block more
-pub record Grown (v : View) (x held : List Frame) (marked spoken : Bool) (h : ℕ) : Type 0 where
-  pub frames : held ≡ v.held ++ x
-  pub marker : marked ≡ cond (nat_eq h 0) (has_speech v.plan.profile.codec x && not v.spoken) v.marked
-  pub speech : spoken ≡ has_speech v.plan.profile.codec x
+abbrev pub with_held : View → List Frame → View
+with_held v x = record (v) { held = v.held ++ x ∷ []; blocks = v.blocks + 1 }
 
--- it is so where it holds it
-abbrev pub with_held : View → List Frame → Bool → Bool → View
-with_held v held marked spoken = record {
-  plan = v.plan;
-  blocks = v.blocks + 1;
-  packets = v.packets;
-  held = held;
-  marked = marked;
-  spoken = spoken;
-  spent = v.spent;
-}
-
-pub stands_held : (v : View) (b : List (List Frame)) (x held : List Frame) (marked spoken : Bool) (h : ℕ)
-    → Serves v.plan → StandsFor v b
-    → h ≡ v.blocks % v.plan.blocks → h + 1 < v.plan.blocks → Grown v x held marked spoken h
-    → StandsFor (with_held v held marked spoken) (b ++ x ∷ [])
-stands_held v b x held marked spoken h plan st is lt g =
+pub stands_held : (v : View) (b : List (List Frame)) (x : List Frame) (q h : ℕ) → Serves v.plan → StandsFor v b
+    → Held v b q h → h + 1 < v.plan.blocks * v.plan.length → StandsFor (with_held v x) (b ++ x ∷ [])
+stands_held v b x q h plan st k lt =
     let s = v.plan in
-    let n = s.blocks in
-    let q = length b / n in
-    let c = counted (length b) n h (facts s plan).blocks (is ∙ ap (λ k. k % n) st.blocks) in
-    let c' = held_more (length b) n q h c lt in
+    let n = s.blocks * s.length in
+    let c = held_more (length b) n q h k.counted lt in
     let len : length (b ++ x ∷ []) ≡ length b + 1 = length-append b (x ∷ []) in
-    let a = c.all in
+    let a = k.counted.all in
     let blocks = st.blocks in
     let first : first_held s (length (b ++ x ∷ [])) ≡ q * n = ap (first_held s) len
-    ∙ first_is s (length b + 1) q (h + 1) plan.plain c' in
+    ∙ first_is s (length b + 1) q (h + 1) plan.plain c in
     record {
       unspent = st.unspent;
       blocks = omega (arith, blocks, len);
-      packets = st.packets ∙ ap length (sym (begun_no_more s b x plan c'.whole));
-      held = g.frames ∙ held_is b x v.held (q * n) (omega (arith, a))
-          (st.held ∙ ap (λ k. flat_map (λ x. x) (drop k b)) (first_is s (length b) q h plan.plain c))
-          ∙ ap (λ k. flat_map (λ x. x) (drop k (b ++ x ∷ []))) (sym first);
-      marked = λ l. g.marker ∙ marker_is v b x q h plan st c ∙ ap (marks s (b ++ x ∷ [])) (sym first);
-      spoken = g.speech ∙ sym (spoken_is s b x);
+      packets = st.packets ∙ ap length (sym (begun_no_more s b x (numbered s plan) plan (c.whole ∙ sym k.counted.whole)));
+      held = more_held v b x q h st k ∙ ap (λ m. drop m (b ++ x ∷ [])) (sym first);
+      spoken = st.spoken ∙ ap (speech_before s b) k.base
+          ∙ sym (before_stays s b x (q * n) (let e : q * n ≤ length b = omega (arith, a) in e))
+          ∙ ap (speech_before s (b ++ x ∷ [])) (sym first);
     }
 
-pub quiet : {S : Type 0} (p : packets.Ghosts S) (sink : S) (v : View) (b : List (List Frame)) (x : List Frame) (h : ℕ)
-    → Serves v.plan → StandsFor v b → h ≡ v.blocks % v.plan.blocks → h + 1 < v.plan.blocks
+pub quiet : {S : Type 0} (p : packets.Ghosts S) (sink : S) (v : View) (b : List (List Frame)) (x : List Frame) (q h : ℕ)
+    → Serves v.plan → Held v b q h → h + 1 < v.plan.blocks * v.plan.length
     → Sends p sink sink (begun v.plan b) (begun v.plan (b ++ x ∷ []))
-quiet p sink v b x h plan st is lt =
+quiet p sink v b x q h plan k lt =
     let s = v.plan in
-    let n = s.blocks in
-    let c = counted (length b) n h (facts s plan).blocks (is ∙ ap (λ k. k % n) st.blocks) in
+    let c = held_more (length b) (s.blocks * s.length) q h k.counted lt in
     record {
       packets = [];
       got = refl;
-      more_by = begun_no_more s b x plan (held_more (length b) n (length b / n) h c lt).whole
-          ∙ sym (append-nil (begun s b));
+      more_by = begun_no_more s b x (numbered s plan) plan (c.whole ∙ sym k.counted.whole) ∙ sym (append-nil (begun s b));
     }
 
--- ---- a block completes a packet
+-- ---- a block completes a group
 
--- it is so where the packet was sent
-abbrev pub with_sent : View → Bool → Bool → View
-with_sent v marked spoken = record {
+-- the sender once the packets were sent
+abbrev pub with_sent : View → List Frame → View
+with_sent v x = record {
   plan = v.plan;
-  blocks = v.blocks + 1;
-  packets = v.packets + 1;
   held = [];
-  marked = marked;
-  spoken = spoken;
+  blocks = v.blocks + 1;
+  packets = v.packets + v.plan.length;
+  spoken = has_speech v.plan.profile.codec x;
   spent = false;
 }
 
-pub stands_sent : (v : View) (b : List (List Frame)) (x held : List Frame) (marked spoken : Bool) (h : ℕ)
-    → Serves v.plan → StandsFor v b
-    → h ≡ v.blocks % v.plan.blocks → h + 1 ≡ v.plan.blocks → Grown v x held marked spoken h
-    → StandsFor (with_sent v marked spoken) (b ++ x ∷ [])
-stands_sent v b x held marked spoken h plan st is eq g =
+-- the packets that are begun by it
+pub group_sent : (v : View) (b : List (List Frame)) (x : List Frame) (q h : ℕ) (y : Behind) → Serves v.plan
+    → StandsFor v b → Held v b q h → h + 1 ≡ v.plan.blocks * v.plan.length → Tells v y (h + 1) (v.blocks + 1)
+    → begun v.plan (b ++ x ∷ []) ≡ begun v.plan b ++ held_turns v.plan y (v.held ++ x ∷ []) v.plan.length
+group_sent v b x q h y plan st k eq t =
     let s = v.plan in
-    let n = s.blocks in
-    let one = (facts s plan).blocks in
-    let q = length b / n in
-    let c = counted (length b) n h one (is ∙ ap (λ k. k % n) st.blocks) in
-    let c' = whole_more (length b) n q h c eq one in
-    let len : length (b ++ x ∷ []) ≡ length b + 1 = length-append b (x ∷ []) in
-    let a = c'.all in
-    let blocks = st.blocks in
-    let packets = st.packets in
-    let more = ap length (begun_one_more s b x plan c'.whole)
-    ∙ length-append (begun s b) (packet_at s (b ++ x ∷ []) q ∷ []) in
-    let first : first_held s (length (b ++ x ∷ [])) ≡ (q + 1) * n = ap (first_held s) len
-    ∙ first_is s (length b + 1) (q + 1) 0 plan.plain c' in
-    record {
-      unspent = refl;
-      blocks = omega (arith, blocks, len);
-      packets = omega (arith, packets, more);
-      held = ap (flat_map (λ x. x)) (sym
-          (drop_all (first_held s (length (b ++ x ∷ []))) (b ++ x ∷ []) (omega (arith, first, len, a))));
-      marked = λ l. absurd (omega (arith, first, len, a, l));
-      spoken = g.speech ∙ sym (spoken_is s b x);
-    }
+    let c = whole_more (length b) (s.blocks * s.length) q h k.counted eq (some_group s plan) in
+    begun_group_more s b x q y (v.held ++ x ∷ []) (numbered s plan) plan k.counted.whole c.whole
+    (stands_more v b x q h y plan st k t)
 
--- what the sender makes of the blocks held and one more is the packet that is begun
-pub packet_is : (v : View) (b : List (List Frame)) (x held : List Frame) (marked spoken : Bool) (h : ℕ) (head : Head)
-    → Serves v.plan → StandsFor v b
-    → h ≡ v.blocks % v.plan.blocks → h + 1 ≡ v.plan.blocks → Grown v x held marked spoken h
-    → head.marked ≡ marked → head.number ≡ v.packets → head.first + (h + 1) ≡ v.blocks + 1
-    → begun v.plan (b ++ x ∷ []) ≡ begun v.plan b ++ packet_with v.plan head held ∷ []
-packet_is v b x held marked spoken h head plan st is eq g marker number first =
+pub stands_sent : (v : View) (b : List (List Frame)) (x : List Frame) (q h : ℕ) → Serves v.plan → StandsFor v b
+    → Held v b q h → h + 1 ≡ v.plan.blocks * v.plan.length → StandsFor (with_sent v x) (b ++ x ∷ [])
+stands_sent v b x q h plan st k eq =
     let s = v.plan in
-    let n = s.blocks in
-    let one = (facts s plan).blocks in
+    let n = s.blocks * s.length in
     let all = b ++ x ∷ [] in
-    let q = length b / n in
-    let c = counted (length b) n h one (is ∙ ap (λ k. k % n) st.blocks) in
-    let c' = whole_more (length b) n q h c eq one in
+    let c = whole_more (length b) n q h k.counted eq (some_group s plan) in
     let len : length all ≡ length b + 1 = length-append b (x ∷ []) in
     let a = c.all in
     let blocks = st.blocks in
-    let made = packet_made s all q (h + 1) head held plan (omega (arith, len, a)) (omega (arith, eq))
-    (number ∙ st.packets ∙ length_begun s b plan.plain)
-    (omega (arith, first, blocks, a))
-    (marker ∙ g.marker ∙ marker_is v b x q h plan st c)
-    (g.frames ∙ held_is b x v.held (q * n) (omega (arith, a))
-    (st.held ∙ ap (λ k. flat_map (λ x. x) (drop k b)) (first_is s (length b) q h plan.plain c))) in
-    begun_one_more s b x plan c'.whole ∙ ap (λ k. begun s b ++ k ∷ []) (sym made)
+    let packets = st.packets ∙ length_begun s b (numbered s plan) ∙ ap (λ g. g * s.length) k.counted.whole in
+    let more = length_begun s all (numbered s plan) ∙ ap (turns_of s) len ∙ ap (λ g. g * s.length) c.whole in
+    let t : (q + 1) * s.length ≡ q * s.length + s.length = grind arith in
+    let first : first_held s (length all) ≡ (q + 1) * n = ap (first_held s) len
+    ∙ first_is s (length b + 1) (q + 1) 0 plan.plain c in
+    let whole : length all ≡ first_held s (length all) = omega (arith, first, len, a) in
+    record {
+      unspent = refl;
+      blocks = omega (arith, blocks, len);
+      packets = omega (arith, packets, more, t);
+      held = sym (drop_all (first_held s (length all)) all (omega (arith, whole)));
+      spoken = sym (spoken_is s b x) ∙ ap (speech_before s all) whole;
+    }
 
 -- ---- the end
 
--- what the sender makes of the blocks held is the packet that is left
-pub rest_sent : (v : View) (b : List (List Frame)) (h : ℕ) (head : Head) → Serves v.plan → StandsFor v b
-    → h ≡ v.blocks % v.plan.blocks → 1 ≤ h
-    → head.marked ≡ v.marked → head.number ≡ v.packets → head.first + h ≡ v.blocks
-    → sent v.plan b ≡ begun v.plan b ++ packet_with v.plan head v.held ∷ []
-rest_sent v b h head plan st is some marker number first =
+pub rest_sent : (v : View) (b : List (List Frame)) (y : Behind) → Serves v.plan → StandsFor v b
+    → Tells v y (length v.held) v.blocks
+    → sent v.plan b ≡ begun v.plan b ++ held_rests v.plan y v.held (rests_held v.plan v.held)
+rest_sent v b y plan st t =
     let s = v.plan in
-    let n = s.blocks in
-    let q = length b / n in
-    let c = counted (length b) n h (facts s plan).blocks (is ∙ ap (λ k. k % n) st.blocks) in
-    let a = c.all in
-    let less = c.less in
+    let k = held_so v b plan st in
+    let none = plan.plain.repeat in
+    let base : first_held s (length b) ≡ grouped s (length b) = omega (arith, none) in
+    let len = ap length st.held ∙ length-drop (first_held s (length b)) b in
+    let a = k.counted.all in
+    let first = k.base in
     let blocks = st.blocks in
-    let f = first_is s (length b) q h plan.plain c in
-    let made = packet_made s b q h head v.held plan a (omega (arith, less))
-    (number ∙ st.packets ∙ length_begun s b plan.plain)
-    (omega (arith, first, blocks, a))
-    (marker ∙ st.marked (omega (arith, f, a, some)) ∙ ap (marks s b) f)
-    (st.held ∙ ap (λ k. flat_map (λ x. x) (drop k b)) f) in
-    sent_one_more s b plan (pieces_more (length b) n q h c some) ∙ ap (λ k. begun s b ++ k ∷ []) (sym made)
-
--- nothing is left
-pub none_sent : (v : View) (b : List (List Frame)) → Serves v.plan → StandsFor v b → 0 ≡ v.blocks % v.plan.blocks
-    → sent v.plan b ≡ begun v.plan b
-none_sent v b plan st is =
-    let s = v.plan in
-    let n = s.blocks in
-    let one = (facts s plan).blocks in
-    sent_no_more s b plan (pieces_whole (length b) n (length b / n)
-    (counted (length b) n 0 one (is ∙ ap (λ k. k % n) st.blocks)) one)
-
--- ---- what the sink got
-
-pub sends_one : {S : Type 0} (p : packets.Ghosts S) (old new : S) (less more : List RtpPacket) (packet : RtpPacket)
-    → p.whole old (written packet) new → more ≡ less ++ packet ∷ [] → Sends p old new less more
-sends_one p old new less more packet whole is = record { packets = packet ∷ []; got = (new, whole, refl); more_by = is }
-
-pub sends_none : {S : Type 0} (p : packets.Ghosts S) (sink : S) (less more : List RtpPacket) → more ≡ less
-    → Sends p sink sink less more
-sends_none p sink less more is = record { packets = []; got = refl; more_by = is ∙ sym (append-nil less) }
-
-pub sends_part : {S : Type 0} (p : packets.Ghosts S) (old new : S) (less more : List RtpPacket) (packet : RtpPacket)
-    → p.part old (written packet) new → more ≡ less ++ packet ∷ [] → SendsPart p old new less more
-sends_part p old new less more packet part is = record {
-  packets = packet ∷ [];
-  got = record { got = []; rest = written packet ∷ []; between = old; split = refl; steps = refl; end = inr part };
-  more_by = is;
-}
+    let told = t.blocks in
+    sent_rest_more s b y v.held (numbered s plan) (omega (arith, len, base)) (record {
+      blocks_are = st.held ∙ ap (λ n. drop n b) base;
+      packets = begun_number v b y plan st t.packets;
+      blocks = omega (arith, base, len, told, blocks, a, first);
+      spoken = t.spoken ∙ st.spoken ∙ ap (speech_before s b) base;
+    })
 
 -- ---- a sender that was made
 
@@ -265,86 +214,98 @@ pub fresh : (v : View) → Serves v.plan → v.spent ≡ false → v.blocks ≡ 
     → v.spoken ≡ false → StandsFor v []
 fresh v plan unspent blocks packets held spoken =
     let s = v.plan in
-    let n = s.blocks in
-    let one = (facts s plan).blocks in
-    let none : 0 / n ≡ 0 = ap (λ k. k / n) (let e : 0 ≡ 0 * n + 0 = omega arith in e) ∙ div-mul-add 0 n 0 one in
+    let n = s.blocks * s.length in
+    let none : 0 / n ≡ 0 = ap (λ k. k / n) (let e : 0 ≡ 0 * n + 0 = omega arith in e)
+    ∙ div-mul-add 0 n 0 (some_group s plan) in
+    let turns : turns_of s 0 ≡ 0 = ap (λ g. g * s.length) none ∙ (let e : 0 * s.length ≡ 0 = omega arith in e) in
+    let no_repeat = plan.plain.repeat in
+    let group : grouped s 0 ≡ 0 = ap (λ g. g * n) none ∙ (let e : 0 * n ≡ 0 = omega arith in e) in
+    let base : first_held s 0 ≡ 0 = omega (arith, group, no_repeat) in
     record {
       unspent = unspent;
       blocks = blocks;
-      packets = packets ∙ sym (length_begun s [] plan.plain ∙ none);
-      held = held ∙ ap (flat_map (λ x. x)) (sym (drop_all (first_held s 0) [] (omega arith)));
-      marked = λ l. absurd (omega (arith, l));
-      spoken = spoken;
+      packets = packets ∙ sym (length_begun s [] (numbered s plan) ∙ turns);
+      held = held ∙ sym (drop_all (first_held s 0) [] (omega arith));
+      spoken = spoken ∙ ap (speech_before s []) (sym base);
     }
 
 -- ---- the answers of the calls
 
-pub takes_held : {S : Type 0} (p : packets.Ghosts S) (sink : S) (v : View) (x held : List Frame)
-    (marked spoken : Bool) (h : ℕ)
-    → Serves v.plan
-    → v.spent ≡ false → h ≡ v.blocks % v.plan.blocks → h + 1 < v.plan.blocks → Grown v x held marked spoken h
-    → Takes p v (with_held v held marked spoken) x sink sink
-takes_held p sink v x held marked spoken h plan unspent is lt g = record {
-  stands = λ b st. stands_held v b x held marked spoken h plan st is lt g;
-  out = λ b st. quiet p sink v b x h plan st is lt;
-  blocks = refl;
-  unspent = unspent;
-}
+pub takes_held : {S : Type 0} (p : packets.Ghosts S) (sink : S) (v : View) (x : List Frame) → Serves v.plan
+    → v.spent ≡ false → v.blocks % (v.plan.blocks * v.plan.length) + 1 < v.plan.blocks * v.plan.length
+    → Takes p v (with_held v x) x sink sink
+takes_held p sink v x plan unspent lt =
+    let n = v.plan.blocks * v.plan.length in
+    let low : (b : List (List Frame)) → StandsFor v b → length b % n + 1 < n =
+    λ b st. (let e = ap (λ m. m % n) st.blocks in omega (arith, e, lt)) in
+    record {
+      stands = λ b st. stands_held v b x (length b / n) (length b % n) plan st (held_so v b plan st) (low b st);
+      out = λ b st. quiet p sink v b x (length b / n) (length b % n) plan (held_so v b plan st) (low b st);
+      blocks = refl;
+      unspent = unspent;
+    }
 
-pub takes_sent : {S : Type 0} (p : packets.Ghosts S) (old new : S) (v : View) (x held : List Frame)
-    (marked spoken : Bool) (h : ℕ) (head : Head)
-    → Serves v.plan → h ≡ v.blocks % v.plan.blocks → h + 1 ≡ v.plan.blocks → Grown v x held marked spoken h
-    → head.marked ≡ marked → head.number ≡ v.packets → head.first + (h + 1) ≡ v.blocks + 1
-    → p.whole old (written (packet_with v.plan head held)) new
-    → Takes p v (with_sent v marked spoken) x old new
-takes_sent p old new v x held marked spoken h head plan is eq g marker number first whole = record {
-  stands = λ b st. stands_sent v b x held marked spoken h plan st is eq g;
-  out = λ b st. sends_one p old new (begun v.plan b) (begun v.plan (b ++ x ∷ [])) (packet_with v.plan head held) whole
-      (packet_is v b x held marked spoken h head plan st is eq g marker number first);
-  blocks = refl;
-  unspent = refl;
-}
+-- a call on a sender whose group is full with the block
+pub record Completes (v : View) (x : List Frame) (y : Behind) : Type 0 where
+  pub plan : Serves v.plan
+  pub full : v.blocks % (v.plan.blocks * v.plan.length) + 1 ≡ v.plan.blocks * v.plan.length
+  pub tells : Tells v y (v.plan.blocks * v.plan.length) (v.blocks + 1)
 
-pub takes_part : {S : Type 0} (p : packets.Ghosts S) (old new : S) (v w : View) (x held : List Frame)
-    (marked spoken : Bool) (h : ℕ) (head : Head)
-    → Serves v.plan → h ≡ v.blocks % v.plan.blocks → h + 1 ≡ v.plan.blocks → Grown v x held marked spoken h
-    → head.marked ≡ marked → head.number ≡ v.packets → head.first + (h + 1) ≡ v.blocks + 1
-    → p.part old (written (packet_with v.plan head held)) new → w.spent ≡ true
-    → TakesPart p v w x old new
-takes_part p old new v w x held marked spoken h head plan is eq g marker number first part spent = record {
-  part = λ b st. sends_part p old new (begun v.plan b) (begun v.plan (b ++ x ∷ [])) (packet_with v.plan head held) part
-      (packet_is v b x held marked spoken h head plan st is eq g marker number first);
+completed : (v : View) (b : List (List Frame)) (x : List Frame) (y : Behind) → Completes v x y → StandsFor v b
+    → begun v.plan (b ++ x ∷ []) ≡ begun v.plan b ++ held_turns v.plan y (v.held ++ x ∷ []) v.plan.length
+completed v b x y k st =
+    let n = v.plan.blocks * v.plan.length in
+    let e = ap (λ m. m % n) st.blocks in
+    let f = k.full in
+    let told = k.tells.blocks in
+    let full : length b % n + 1 ≡ n = omega (arith, e, f) in
+    group_sent v b x (length b / n) (length b % n) y k.plan st (held_so v b k.plan st) full (record {
+      spoken = k.tells.spoken;
+      packets = k.tells.packets;
+      blocks = omega (arith, told, full);
+    })
+
+pub takes_sent : {S : Type 0} (p : packets.Ghosts S) (old new : S) (v : View) (x : List Frame) (y : Behind)
+    → Completes v x y → GotBlocks p.whole old (map written (held_turns v.plan y (v.held ++ x ∷ []) v.plan.length)) new
+    → Takes p v (with_sent v x) x old new
+takes_sent p old new v x y k got =
+    let n = v.plan.blocks * v.plan.length in
+    let f = k.full in
+    record {
+      stands = λ b st. stands_sent v b x (length b / n) (length b % n) k.plan st (held_so v b k.plan st)
+          (let e = ap (λ m. m % n) st.blocks in omega (arith, e, f));
+      out = λ b st. record { packets = held_turns v.plan y (v.held ++ x ∷ []) v.plan.length; got = got; more_by = completed v b x y k st };
+      blocks = refl;
+      unspent = refl;
+    }
+
+pub takes_part : {S : Type 0} (p : packets.Ghosts S) (old new : S) (v w : View) (x : List Frame) (y : Behind)
+    → Completes v x y
+    → GotPrefix p.whole p.part old (map written (held_turns v.plan y (v.held ++ x ∷ []) v.plan.length)) new
+    → w.spent ≡ true → TakesPart p v w x old new
+takes_part p old new v w x y k got spent = record {
+  part = λ b st. record { packets = held_turns v.plan y (v.held ++ x ∷ []) v.plan.length; got = got; more_by = completed v b x y k st };
   spent = spent;
 }
 
-pub ends_none : {S : Type 0} (p : packets.Ghosts S) (sink : S) (v w : View) → Serves v.plan
-    → 0 ≡ v.blocks % v.plan.blocks
-    → w.packets ≡ v.packets → Finishes p v w sink sink
-ends_none p sink v w plan is same = record {
-  out = λ b st. sends_none p sink (begun v.plan b) (sent v.plan b) (none_sent v b plan st is);
-  count = λ b st. same ∙ st.packets ∙ ap length (sym (none_sent v b plan st is));
-}
-
-pub ends_sent : {S : Type 0} (p : packets.Ghosts S) (old new : S) (v w : View) (h : ℕ) (head : Head)
-    → Serves v.plan → h ≡ v.blocks % v.plan.blocks → 1 ≤ h
-    → head.marked ≡ v.marked → head.number ≡ v.packets → head.first + h ≡ v.blocks
-    → p.whole old (written (packet_with v.plan head v.held)) new → w.packets ≡ v.packets + 1
-    → Finishes p v w old new
-ends_sent p old new v w h head plan is some marker number first whole more = record {
-  out = λ b st. sends_one p old new (begun v.plan b) (sent v.plan b) (packet_with v.plan head v.held) whole
-      (rest_sent v b h head plan st is some marker number first);
+pub ends_sent : {S : Type 0} (p : packets.Ghosts S) (old new : S) (v w : View) (y : Behind) → Serves v.plan
+    → Tells v y (length v.held) v.blocks
+    → GotBlocks p.whole old (map written (held_rests v.plan y v.held (rests_held v.plan v.held))) new
+    → w.packets ≡ v.packets + rests_held v.plan v.held → Finishes p v w old new
+ends_sent p old new v w y plan t got more = record {
+  out = λ b st. record { packets = held_rests v.plan y v.held (rests_held v.plan v.held); got = got; more_by = rest_sent v b y plan st t };
   count = λ b st.
-      let all = ap length (rest_sent v b h head plan st is some marker number first)
-      ∙ length-append (begun v.plan b) (packet_with v.plan head v.held ∷ []) in
+      let all = ap length (rest_sent v b y plan st t)
+      ∙ length-append (begun v.plan b) (held_rests v.plan y v.held (rests_held v.plan v.held)) in
+      let size = length-map-range_with_len (λ i. held_packet v.plan y v.held i (rest_in v.plan (length v.held) i)) 0 (rests_held v.plan v.held) in
       let packets = st.packets in
-      omega (arith, more, all, packets);
+      omega (arith, more, all, packets, size);
 }
 
-pub ends_part : {S : Type 0} (p : packets.Ghosts S) (old new : S) (v : View) (h : ℕ) (head : Head)
-    → Serves v.plan → h ≡ v.blocks % v.plan.blocks → 1 ≤ h
-    → head.marked ≡ v.marked → head.number ≡ v.packets → head.first + h ≡ v.blocks
-    → p.part old (written (packet_with v.plan head v.held)) new → FinishesPart p v old new
-ends_part p old new v h head plan is some marker number first part = record {
-  part = λ b st. sends_part p old new (begun v.plan b) (sent v.plan b) (packet_with v.plan head v.held) part
-      (rest_sent v b h head plan st is some marker number first);
+pub ends_part : {S : Type 0} (p : packets.Ghosts S) (old new : S) (v : View) (y : Behind) → Serves v.plan
+    → Tells v y (length v.held) v.blocks
+    → GotPrefix p.whole p.part old (map written (held_rests v.plan y v.held (rests_held v.plan v.held))) new
+    → FinishesPart p v old new
+ends_part p old new v y plan t got = record {
+  part = λ b st. record { packets = held_rests v.plan y v.held (rests_held v.plan v.held); got = got; more_by = rest_sent v b y plan st t };
 }

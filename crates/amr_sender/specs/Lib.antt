@@ -1,3 +1,4 @@
+pub mod Held
 pub mod Packets
 pub mod Plans
 pub mod Sender

@@ -1,10 +1,9 @@
 -- The packet that carries some frames, as the sender makes it. This project's own, over RTP packets
 -- (RFC 3550, 5.1) with the payloads of RFC 4867, 4.
-use Rattle.std.specs.Prelude.{◌≡◌, ℕ, ◌*◌, ◌≤◌, ◌-◌, Bool, ◌&&◌, nat_lt, IsTrue, List, [], length, take, None, Result, OnOk, OnErr}
-use Rattle.std.specs.List.{AllByRecursion}
-use Rattle.amr_frame.specs.Blocks.{frames_of}
+use Rattle.std.specs.Prelude.{◌≡◌, ◌⊎◌, ℕ, ◌≤◌, ◌<◌, ◌-◌, Bool, ◌&&◌, nat_lt, List, [], take, None, Result, OnOk, OnErr}
 use Rattle.amr_frame.specs.declared.cell.Cell.{Cell}
-use Rattle.amr_frame.specs.Frames.{Frame, IsFrame}
+use Rattle.amr_frame.specs.Frames.{Frame}
+use Rattle.amr_group.specs.Buffer.{ArePresentBlocks}
 use Rattle.amr_sender.specs.declared.packet.Head.{Head}
 use Rattle.rtp_packet.specs.declared.fields.RtpFields.{RtpFields}
 use Rattle.rtp_packet.specs.declared.packet_sink.PacketSink as packets
@@ -16,22 +15,32 @@ use Rattle.spec_payload.specs.Values.{Value}
 use Rattle.spec_sending.specs.Sending.{block_of, has_speech, sequence_of, timestamp_of}
 use Rattle.spec_sending.specs.declared.plan.SendPlan.{SendPlan}
 
--- what its payload says: the frames of consecutive blocks
-abbrev pub said : SendPlan → List Frame → Value
-said s frames = record { cmr = s.cmr; stride = 1; index = 0; frames = frames }
+-- what its payload says: these frames, whose blocks stand a stride apart
+abbrev pub said : SendPlan → Head → List Frame → Value
+said s head frames = record {
+  cmr = s.cmr;
+  stride = head.stride;
+  index = head.index;
+  frames = frames;
+}
 
--- a packet with this marker, before which so many were sent and which begins with this block
+-- a packet with this head and these frames
 abbrev pub packet_with : SendPlan → Head → List Frame → RtpPacket
 packet_with s head frames = record {
   marker = head.marked;
   payload_type = s.pt;
   sequence = sequence_of s head.number;
-  timestamp = timestamp_of s (record { first = head.first; stride = 1; index = 0; count = 0 });
+  timestamp = timestamp_of s (record {
+    first = head.first;
+    stride = head.stride;
+    index = head.index;
+    count = 0;
+  });
   ssrc = s.ssrc;
   sources = [];
   extension = None;
   padding = 0;
-  payload = text s.profile (said s frames);
+  payload = text s.profile (said s head frames);
 }
 
 -- the first so many octets are a packet as it is written
@@ -52,19 +61,19 @@ pub record IsPlainHeader (f : RtpFields) : Type 0 where
   pub extension : f.extension ≡ None
   pub padding : f.padding ≡ 0
 
--- cells that are all present, and whose frames are so many blocks of the plan
-pub record AreBlocks (s : SendPlan) (count : ℕ) (cells : List Cell) : Type 0 where
-  pub present : AllByRecursion (λ (cell : Cell). IsTrue cell.present) cells
-  pub whole : length cells ≡ count * s.profile.channels
-  pub frames : AllByRecursion (IsFrame s.profile.codec) (frames_of cells)
+-- a packet of consecutive blocks, or one of a group of the plan
+abbrev pub FitsPlan : SendPlan → Head → Type 0
+FitsPlan s head = ((head.stride ≡ 1) × (head.index ≡ 0))
+    ⊎ ((head.stride ≡ s.length) × (head.index < s.length))
 
--- cells that are the blocks of one packet: at least one, and at most as many as the plan's packets
--- have
-pub record CanCarry (s : SendPlan) (cells : List Cell) : Type 0 where
+-- cells that are the blocks of one packet with this head: at least one, and at most as many as the
+-- plan's packets have
+pub record CanCarry (s : SendPlan) (head : Head) (cells : List Cell) : Type 0 where
   pub count : ℕ
   pub some : 1 ≤ count
   pub most : count ≤ s.blocks
-  pub blocks : AreBlocks s count cells
+  pub blocks : ArePresentBlocks s.profile.codec s.profile.channels count cells
+  pub turn : FitsPlan s head
 
 -- whether block n - 1, where there is one, has a frame of speech
 abbrev pub speech_before : SendPlan → List (List Frame) → ℕ → Bool

@@ -3,9 +3,8 @@ use Rattle.std.specs.Prelude.{◌≡◌, false}
 use Rattle.spec_sending.specs.Plans.{IsPlan}
 use Rattle.spec_sending.specs.declared.plan.SendPlan.{SendPlan}
 
--- packets carry consecutive blocks, each block once, and none is left out
+-- each block is in one packet, and none is left out
 pub record IsPlain (s : SendPlan) : Type 0 where
-  pub length : s.length ≡ 1
   pub repeat : s.repeat ≡ 0
   pub all : s.skip_empty ≡ false
 

@@ -1,62 +1,59 @@
 -- What contracts see of a sender, and what it stands for. This project's own.
-use Rattle.std.specs.Prelude.{◌≡◌, ℕ, ◌+◌, ◌-◌, ◌*◌, ◌%◌, ◌^◌, ◌<◌, ◌≤◌, Bool, false, List, length, drop, flat_map, vec_len, vec_capacity}
-use Rattle.amr_frame.specs.Blocks.{frames_of}
+use Rattle.std.specs.Prelude.{◌≡◌, ℕ, ◌+◌, ◌-◌, ◌*◌, ◌%◌, ◌^◌, ◌<◌, ◌≤◌, Bool, false, List, length, drop, vec_len}
 use Rattle.amr_frame.specs.Frames.{Frame}
 use Rattle.amr_sender.specs.declared.sender.Sender.TheInside.{Inside}
-use Rattle.amr_sender.specs.Packets.{AreBlocks, speech_before}
+use Rattle.amr_sender.specs.Held.{IsGroupOf, held_of}
+use Rattle.amr_sender.specs.Packets.{speech_before}
 use Rattle.amr_sender.specs.Plans.{Serves}
 use Rattle.spec_sending.specs.Portions.{grouped}
-use Rattle.spec_sending.specs.Sending.{begun, marks}
+use Rattle.spec_sending.specs.Sending.{begun}
 use Rattle.spec_sending.specs.declared.plan.SendPlan.{SendPlan}
 
--- the plan; the frames of the blocks held for the next packet, block by block; how many blocks came
--- and how many packets were sent; the next packet's marker; whether the last block has speech; and
--- whether the sender was ended or its sink has failed
+-- the plan; the blocks held for the next packets; how many blocks came and how many packets were
+-- sent; whether the block before those held has speech; and whether the sender was ended or its
+-- sink has failed
 pub record View : Type 0 where
   pub plan : SendPlan
-  pub held : List Frame
+  pub held : List (List Frame)
   pub blocks : ℕ
   pub packets : ℕ
-  pub marked : Bool
   pub spoken : Bool
   pub spent : Bool
 
 abbrev pub view_of : Inside → View
 view_of s = record {
   plan = s.plan;
-  held = frames_of s.cells.items;
+  held = held_of s.group;
   blocks = s.blocks;
   packets = s.packets;
-  marked = s.marked;
   spoken = s.spoken;
   spent = s.spent;
 }
 
--- what holds of every sender: its room is as large as when it was made; where it isn't spent, the
--- blocks held are those behind the last whole packet
+-- what holds of every sender: its rooms are as large as when it was made; where it isn't spent, the
+-- blocks held are those behind the last whole group
 pub record IsSender (s : Inside) : Type 0 where
   pub plan : Serves s.plan
+  pub group : IsGroupOf s.plan s.group
   pub octets : vec_len s.room ≡ 23822
-  pub cells : s.plan.blocks * s.plan.profile.channels ≤ vec_capacity s.cells
+  pub cells : vec_len s.cells ≡ s.plan.blocks * s.plan.profile.channels
   pub blocks : s.blocks ≤ 2 ^ 53
-  pub packets : s.spent ≡ false → s.packets + s.count ≤ s.blocks
-  pub count : s.spent ≡ false → s.count ≡ s.blocks % s.plan.blocks
-  pub held : s.spent ≡ false → AreBlocks s.plan s.count s.cells.items
+  pub packets : s.spent ≡ false → s.packets + length s.group.blocks ≤ s.blocks
+  pub count : s.spent ≡ false
+      → length s.group.blocks ≡ s.blocks % (s.plan.blocks * s.plan.length)
 
 -- the number of the first block that is held of m blocks: the first that further packets carry
 abbrev pub first_held : SendPlan → ℕ → ℕ
 first_held s m = grouped s m - s.repeat
 
 -- the sender stands for these blocks: it knows their number, the number of packets begun for them,
--- the last blocks, and what the markers of further packets hang on
+-- the last blocks, and whether the block before those has speech
 pub record StandsFor (v : View) (b : List (List Frame)) : Type 0 where
   pub unspent : v.spent ≡ false
   pub blocks : v.blocks ≡ length b
   pub packets : v.packets ≡ length (begun v.plan b)
-  pub held : v.held ≡ flat_map (λ x. x) (drop (first_held v.plan (length b)) b)
-  pub marked : first_held v.plan (length b) < length b
-      → v.marked ≡ marks v.plan b (first_held v.plan (length b))
-  pub spoken : v.spoken ≡ speech_before v.plan b (length b)
+  pub held : v.held ≡ drop (first_held v.plan (length b)) b
+  pub spoken : v.spoken ≡ speech_before v.plan b (first_held v.plan (length b))
 
 -- it takes a block more: no call failed, and the number of blocks isn't near what it can be
 pub record TakesBlock (v : View) : Type 0 where

@@ -2,6 +2,7 @@
 //! from memory that is reserved at the start.
 #![tactic(auto)]
 
+mod groups;
 mod laws;
 mod packet;
 mod sender;

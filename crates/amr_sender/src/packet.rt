@@ -33,6 +33,20 @@ pub struct Head {
     pub number: u64,
     /// The number of its first block, of all blocks.
     pub first: u64,
+    /// How far apart its blocks stand, and its number in its group (RFC 4867, 4.4.1).
+    pub stride: u8,
+    pub index: u8,
+}
+
+/// What stands before the blocks of a buffer among all that are sent.
+#[derive(Clone, Copy, Debug)]
+pub struct Behind {
+    /// The block before the first one has a frame of speech.
+    pub spoken: bool,
+    /// How many packets were sent before.
+    pub packets: u64,
+    /// The number of the first block, of all blocks.
+    pub blocks: u64,
 }
 
 /// Whether a block has a frame of speech.
@@ -54,7 +68,7 @@ fn fields_of(plan: &SendPlan, head: Head) -> RtpFields<'static>
     requires first { head.first < 2 ^ 54 }
 
     ensures packet { (frames : List Frame)
-        → packet_of result (text plan.now.profile (said plan.now frames))
+        → packet_of result (text plan.now.profile (said plan.now head frames))
         ≡ packet_with plan.now head frames }
     ensures plain { IsPlainHeader result }
 {
@@ -96,7 +110,7 @@ fn write_packet(
     size
 }
 
-/// Sends the packet of so many blocks.
+/// Sends the packet of these blocks.
 ///
 /// `Failed` comes only where the sink's faults rose. A part of the packet may then have been put.
 pub fn send<P: PacketSink>(
@@ -108,7 +122,7 @@ pub fn send<P: PacketSink>(
 ) -> Result<(), Failed>
     requires plan { Serves plan.now }
     requires first { head.first < 2 ^ 54 }
-    requires cells { CanCarry plan.now cells.now }
+    requires cells { CanCarry plan.now head cells.now }
     requires room { length room.old ≡ 23822 }
     requires sink { IsTrue (P.ready out.old) }
 
@@ -117,8 +131,8 @@ pub fn send<P: PacketSink>(
 {
     let payload = Payload {
         cmr: plan.cmr,
-        stride: 1,
-        index: 0,
+        stride: head.stride,
+        index: head.index,
         cells,
     };
     let size = write_packet(&plan.profile, &fields_of(plan, head), &payload, room);

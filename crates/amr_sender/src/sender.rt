@@ -1,12 +1,14 @@
 // The sender of a stream.
-ghost use Rattle.std.specs.Prelude.{◌≡◌, ◌≤◌, ◌&&◌, cond, nat_eq, not, IfOk, IsTrue, List, OnErr, OnOk, [], false, length, true};
+ghost use Rattle.std.specs.Prelude.{◌≡◌, ◌≤◌, IfOk, IsTrue, List, OnErr, OnOk, [], false, length, true};
 ghost use Rattle.amr_frame.specs.Blocks.{IsPresentBlock, frames_of};
 ghost use Rattle.amr_sender.specs.Plans.{IsPlain};
 ghost use Rattle.rtp_packet.specs.PacketSteps.{PacketStep};
 ghost use Rattle.spec_sending.specs.Plans.{IsPlan};
 
-use crate::packet::{Head, MOST_OCTETS, send, speaks};
+use crate::groups::{put_group, put_rest, rest_size};
+use crate::packet::{Behind, MOST_OCTETS, speaks};
 use amr_frame::Cell;
+use amr_group::{GroupBuffer, GroupPlan};
 use amr_io::Failed;
 use rtp_packet::PacketSink;
 use spec_sending::SendPlan;
@@ -18,16 +20,15 @@ use std::marker::Model;
 #[derive(Drop)]
 pub struct Sender {
     plan: SendPlan,
-    /// The cells of the blocks held for the next packet, and how many blocks they are.
+    /// The blocks held for the next packets.
+    group: GroupBuffer,
+    /// The cells of one packet of a group.
     cells: Vec<Cell>,
-    count: u8,
     /// The octets of one packet.
     room: Vec<u8>,
     blocks: u64,
     packets: u64,
-    /// The marker of the next packet, once it has a block.
-    marked: bool,
-    /// The last block has a frame of speech.
+    /// The block before those held has a frame of speech.
     spoken: bool,
     spent: bool,
 }
@@ -42,24 +43,13 @@ impl Model for Sender {
     ghost invariant = { IsSender };
 }
 
-/// The marker of the next packet with a block more: only the first one that it carries counts.
-fn marker_with(count: u8, marked: bool, speech: bool, spoken: bool) -> bool
-    ensures { result ≡ cond (nat_eq count 0) (speech && not spoken) marked }
-{
-    if count == 0 {
-        speech && !spoken
-    } else {
-        marked
-    }
-}
-
 impl Sender {
     ghost use Rattle.amr_frame.specs.Frames.{Frame};
     ghost use Rattle.amr_sender.specs.Sender.{StandsFor, TakesBlock};
     ghost use Rattle.amr_sender.specs.Sends.{Finishes, FinishesPart, Takes, TakesPart};
     ghost use Rattle.spec_sending.specs.Sending.{begun};
 
-    /// A sender that has got nothing, with room for one packet and the blocks that it carries.
+    /// A sender that has got nothing, with room for one packet and one group of blocks.
     pub fn create(alloc: Global, plan: SendPlan) -> Result<Sender, AllocError>
         requires valid { IsPlan plan }
         requires plain { IsPlain plan }
@@ -69,17 +59,21 @@ impl Sender {
         ensures none { IfOk result (λ s. (s.blocks ≡ 0) × (s.packets ≡ 0)) }
         ensures unspent { IfOk result (λ s. s.spent ≡ false) }
     {
+        let groups = GroupPlan {
+            blocks: plan.blocks,
+            length: plan.length,
+        };
+        let group = GroupBuffer::create(alloc, groups, plan.profile.codec, plan.profile.channels)?;
         let most = usize::from(plan.blocks) * usize::from(plan.profile.channels);
-        let cells = Vec::with_capacity(alloc, most)?;
+        let cells = vec![in alloc; Cell::absent(); most]?;
         let room = vec![in alloc; 0u8; MOST_OCTETS]?;
         Ok(Sender {
             plan,
+            group,
             cells,
-            count: 0,
             room,
             blocks: 0,
             packets: 0,
-            marked: false,
             spoken: false,
             spent: false,
         })
@@ -94,7 +88,7 @@ impl Sender {
         self.packets
     }
 
-    /// Takes a block, and puts the packet of which it is the last.
+    /// Takes a block, and puts the packets of the group of which it is the last.
     ///
     /// `Failed` comes only where the sink's faults rose: the sender is then spent.
     pub fn put_block<P: PacketSink>(&mut self, cells: &[Cell], out: &mut P) -> Result<(), Failed>
@@ -110,32 +104,33 @@ impl Sender {
         ensures plan { self.new.plan ≡ self.old.plan }
         ensures step { PacketStep P.PacketSink out.old out.new result }
     {
-        let speech = speaks(self.plan.profile.codec, cells);
-        self.marked = marker_with(self.count, self.marked, speech, self.spoken);
-        self.spoken = speech;
-        let Ok(()) = self.cells.extend_from_slice(cells) else {
-            unreachable!()
-        };
-        self.count += 1;
+        self.group.add(cells);
         self.blocks += 1;
-        if self.count < self.plan.blocks {
+        if !self.group.full() {
             return Ok(());
         }
         self.spent = true;
-        let head = Head {
-            marked: self.marked,
-            number: self.packets,
-            first: self.blocks - u64::from(self.count),
+        let behind = Behind {
+            spoken: self.spoken,
+            packets: self.packets,
+            blocks: self.blocks - self.group.len() as u64,
         };
-        send(&self.plan, head, &self.cells, &mut self.room, out)?;
-        self.cells.clear();
-        self.count = 0;
-        self.packets += 1;
+        put_group(
+            &self.plan,
+            behind,
+            &self.group,
+            &mut self.cells,
+            &mut self.room,
+            out,
+        )?;
+        self.spoken = speaks(self.plan.profile.codec, cells);
+        self.group.clear();
+        self.packets += u64::from(self.plan.length);
         self.spent = false;
         Ok(())
     }
 
-    /// Puts the packet of the blocks that are left, where there are any, and ends the sender.
+    /// Puts the packets of the blocks that are left, fewer than a group, and ends the sender.
     ///
     /// `Failed` comes only where the sink's faults rose.
     pub fn finish<P: PacketSink>(&mut self, out: &mut P) -> Result<(), Failed>
@@ -151,16 +146,13 @@ impl Sender {
         ensures step { PacketStep P.PacketSink out.old out.new result }
     {
         self.spent = true;
-        if self.count == 0 {
-            return Ok(());
-        }
-        let head = Head {
-            marked: self.marked,
-            number: self.packets,
-            first: self.blocks - u64::from(self.count),
+        let behind = Behind {
+            spoken: self.spoken,
+            packets: self.packets,
+            blocks: self.blocks - self.group.len() as u64,
         };
-        send(&self.plan, head, &self.cells, &mut self.room, out)?;
-        self.packets += 1;
+        put_rest(&self.plan, behind, &self.group, &mut self.room, out)?;
+        self.packets += rest_size(&self.plan, &self.group);
         Ok(())
     }
 }

@@ -33,6 +33,24 @@ fn plan(blocks: u8, seq: u16, ts: u32) -> SendPlan
     }
 }
 
+// A plan of groups of at most so many blocks.
+fn grouped(blocks: u8, length: u8, most: u16) -> SendPlan
+    ensures plain { IsPlain result }
+    ensures codec { result.profile.codec ≡ Amr }
+    ensures channels { result.profile.channels ≡ 1 }
+{
+    let consecutive = plan(blocks, 0, 0);
+    SendPlan {
+        length,
+        profile: Profile {
+            octet_aligned: true,
+            interleaving: Some(most),
+            ..consecutive.profile
+        },
+        ..consecutive
+    }
+}
+
 // A frame whose bits are 0.
 fn zeros(ft: u8) -> Cell
     requires type_exists { ft ≤ 15 }
@@ -132,6 +150,28 @@ fn the_marker_stands_where_speech_begins(rt: HostRuntime) -> Result<(), Fail> {
     for (at, second) in [(3, 0x60), (24, 0xE0), (70, 0x60), (116, 0x60), (132, 0xE0)] {
         assert_eq!(rt; octets.get(at), Some(&second), "octet {at}");
     }
+    Ok(())
+}
+
+#[test]
+fn a_group_goes_as_its_packets_and_the_rest_behind_it(rt: HostRuntime) -> Result<(), Fail> {
+    let mut sink = MemorySink::create(rt.alloc(), 100, 100, &[])?;
+    let mut log = LogWriter::new(&mut sink);
+    assert_eq!(rt;
+        send(rt.alloc(), grouped(2, 2, 4), &[8, 8, 8, 8, 8], &mut log)?,
+        Some(3)
+    );
+    let mut expected = [0u8; 78];
+    expected[..18].copy_from_slice(&[
+        0, 26, 0x80, 0x60, 0, 0, 0, 0, 0, 0, 1, 2, 3, 4, 0xF0, 0x10, 0xC4, 0x44,
+    ]);
+    expected[28..46].copy_from_slice(&[
+        0, 26, 0x80, 0x60, 0, 1, 0, 0, 0, 0xA0, 1, 2, 3, 4, 0xF0, 0x11, 0xC4, 0x44,
+    ]);
+    expected[56..73].copy_from_slice(&[
+        0, 20, 0x80, 0x60, 0, 2, 0, 0, 2, 0x80, 1, 2, 3, 4, 0xF0, 0, 0x44,
+    ]);
+    assert_eq!(rt; sink.octets(), expected.as_slice());
     Ok(())
 }
 

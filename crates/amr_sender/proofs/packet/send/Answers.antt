@@ -13,7 +13,7 @@ write_packet-size-requires-clause-carries g c = record {
   valid = (facts c.args.plan.now c.requires.plan).format;
   carried = record {
     present = c.requires.cells.blocks.present;
-    value = value c.args.plan.now c.args.cells.now c.requires.plan c.requires.cells;
+    value = value c.args.plan.now c.args.head c.args.cells.now c.requires.plan c.requires.cells;
   };
 }
 
