@@ -60,8 +60,8 @@ fn record_job(values: &RecordWords) -> Option<Job>
     }
 }
 
-/// Streaming as these values ask: each packet carries consecutive blocks, each block once, and none
-/// is left out. There is no job where their plan isn't valid.
+/// Streaming as these values ask: each block once, and none is left out. There is no job where
+/// their plan isn't valid.
 fn stream_job(values: &StreamWords) -> Option<Job>
     requires within { AreSendable values.now }
 
@@ -72,7 +72,7 @@ fn stream_job(values: &StreamWords) -> Option<Job>
     let plan = SendPlan {
         profile: values.fmtp.profile(values.codec, values.channels, 64),
         blocks: values.blocks,
-        length: 1,
+        length: values.length,
         repeat: 0,
         skip_empty: false,
         cmr: values.cmr,

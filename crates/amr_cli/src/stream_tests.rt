@@ -108,6 +108,42 @@ fn packets_carry_what_the_options_say(rt: HostRuntime) -> Result<(), Fail> {
 }
 
 #[test]
+fn groups_are_interleaved(rt: HostRuntime) -> Result<(), Fail> {
+    let mut file = join(rt.alloc(), &[(HEAD, 0)])?;
+    for _ in 0..5 {
+        file.extend_from_slice(&[0x44, 0, 0, 0, 0, 0])?;
+    }
+    // A group of two packets, of blocks 0 and 2 and of blocks 1 and 3, and the block that is left.
+    expect(
+        &rt,
+        "stream --codec AMR --fmtp interleaving=4 --blocks 2 --length 2",
+        &file,
+        Status::Done,
+        &[
+            (&[0, 26, 0x80, 0x60], 10),
+            (&[0xF0, 0x10, 0xC4, 0x44], 10),
+            (&[0, 26, 0x80, 0x60, 0, 1, 0, 0, 0, 160], 4),
+            (&[0xF0, 0x11, 0xC4, 0x44], 10),
+            (&[0, 20, 0x80, 0x60, 0, 2, 0, 0, 2, 0x80], 4),
+            (&[0xF0, 0, 0x44], 5),
+        ],
+        "blocks=5 packets=3\n",
+    )?;
+    // A group of one packet is no interleaving, whatever the format.
+    expect(
+        &rt,
+        "stream --codec AMR --length 1 --blocks 5",
+        &file,
+        Status::Done,
+        &[
+            (&[0, 41, 0x80, 0x60], 10),
+            (&[0xFC, 0x71, 0xC7, 0x14, 0x40], 24),
+        ],
+        "blocks=5 packets=1\n",
+    )
+}
+
+#[test]
 fn the_end_of_a_file_has_its_status(rt: HostRuntime) -> Result<(), Fail> {
     let two = "stream --codec AMR --channels 2";
     let wide: Parts<'_> = &[(b"#!AMR_MC1.0\n", 3), (&[2, 0x44], 5), (&[0x7C], 0)];

@@ -23,7 +23,7 @@ use Rattle.spec_jobs.specs.Jobs.{Job, RecordLog, StreamFile, asked_named, asked_
 use Rattle.spec_modes.specs.ModeSets.{bits_for, modes_in}
 use Rattle.spec_session.specs.Session.{rules_of}
 use Rattle.spec_words.specs.Given.{modes_or_all, number_among, number_or_default, parameters_at}
-use Rattle.spec_words.specs.Table.{fmtp, group, record_name, repeat, skip, stream_name}
+use Rattle.spec_words.specs.Table.{fmtp, record_name, repeat, skip, stream_name}
 use Rattle.spec_words.specs.Words.{Pair}
 
 -- the bits from a place on, as a number
@@ -89,11 +89,11 @@ module _ (c : Codec) (given : List Pair) (f : Fmtp) (fits : AreShort f.modes) (r
       ∙ ap (λ n. asked_of commands n given c) (sym is)
 
   -- how a file is sent, by the bits of the modes and by what isn't built
-  abbrev sent : StreamWords → ℕ → ℕ → ℕ → Bool → Job
-  sent w bits length again skips = StreamFile (record {
+  abbrev sent : StreamWords → ℕ → ℕ → Bool → Job
+  sent w bits again skips = StreamFile (record {
     profile = record (format_of f c w.channels 64) { modes = bits };
     blocks = w.blocks;
-    length = length;
+    length = w.length;
     repeat = again;
     skip_empty = skips;
     cmr = w.cmr;
@@ -105,11 +105,8 @@ module _ (c : Codec) (given : List Pair) (f : Fmtp) (fits : AreShort f.modes) (r
 
   same_sending : ArePlain given → asked_in (Stream (stream_words c given f)) ≡ stream_asked c given (parameters f)
   same_sending plain = λ i. sent (stream_words c given f)
-      (bits_are c f.modes fits i) (sym length i) (sym again i) (sym skips i)
+      (bits_are c f.modes fits i) (sym again i) (sym skips i)
     where
-      length : number_or_default group given ≡ 1
-      length = ap (λ t. unwrap_or (option_and_then (number_among group.values) t) 1) plain.length
-
       again : number_or_default repeat given ≡ 0
       again = ap (λ t. unwrap_or (option_and_then (number_among repeat.values) t) 0) plain.repeat
 

@@ -7,7 +7,7 @@ use Rattle.amr_frame.specs.declared.codec.Codec.{Codec}
 use Rattle.command_words.specs.Built.{built}
 use Rattle.command_words.specs.Options.{ArePlain, is_allowed}
 use Rattle.spec_words.specs.Given.{allows, are_allowed, are_options}
-use Rattle.spec_words.specs.Table.{group, repeat, skip}
+use Rattle.spec_words.specs.Table.{repeat, skip}
 use Rattle.spec_words.specs.Words.{Pair, pairs, value_of}
 
 clash : (b : Bool) → b ≡ true → b ≡ false → ⊥
@@ -34,7 +34,6 @@ untaken name test never (p ∷ rest) all = by_name (bytes_eq p.option name) refl
 
 pub plain : (command : List ℕ) (c : Codec) (given ps : List Pair) → list_all (is_allowed command c given) ps ≡ true → ArePlain ps
 plain command c given ps all = record {
-  length = untaken group.option (is_allowed command c given) (λ value. refl) ps all;
   repeat = untaken repeat.option (is_allowed command c given) (λ value. refl) ps all;
   skip = untaken skip.option (is_allowed command c given) (λ value. refl) ps all;
 }

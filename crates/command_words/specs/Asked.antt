@@ -23,13 +23,12 @@ recording_of w =
     let f = record (format_of w.fmtp w.codec w.channels w.max_blocks) { strict = w.strict } in
     record { profile = f; asked = w.pt; rules = rules_of f w.window w.reach }
 
--- how a file is sent by these values: each packet carries consecutive blocks, each block once, and
--- none is left out
+-- how a file is sent by these values: each block once, and none is left out
 abbrev pub sending_of : StreamWords → SendPlan
 sending_of w = record {
   profile = format_of w.fmtp w.codec w.channels 64;
   blocks = w.blocks;
-  length = 1;
+  length = w.length;
   repeat = 0;
   skip_empty = false;
   cmr = w.cmr;
@@ -65,6 +64,7 @@ stream_words c given f = record {
   fmtp = f;
   limit = number_or_default option.limit given;
   blocks = number_or_default option.blocks given;
+  length = number_or_default option.group given;
   cmr = number_or_default option.cmr given;
   pt = number_or 96 option.pt given;
   ssrc = number_or_default option.ssrc given;
@@ -82,8 +82,9 @@ AreWithin w =
 abbrev pub AreSendable : StreamWords → Type 0
 AreSendable w =
     IsWithin option.channels w.channels × IsWithin option.limit w.limit
-    × IsWithin option.blocks w.blocks × IsWithin option.cmr w.cmr × IsWithin option.pt w.pt
-    × IsWithin option.ssrc w.ssrc × IsWithin option.seq w.seq × IsWithin option.ts w.ts
+    × IsWithin option.blocks w.blocks × IsWithin option.group w.length
+    × IsWithin option.cmr w.cmr × IsWithin option.pt w.pt × IsWithin option.ssrc w.ssrc
+    × IsWithin option.seq w.seq × IsWithin option.ts w.ts
 
 abbrev pub HasValues : Command → Type 0
 HasValues (Record w) = AreWithin w

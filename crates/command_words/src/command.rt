@@ -11,8 +11,8 @@ ghost use Rattle.spec_words.specs.Words.{texts};
 
 use crate::options::Options;
 use crate::table::{
-    BLOCKS, CHANNELS, CMR, LIMIT, MAX_BLOCKS, PT, REACH, RECORD, SEQ, SSRC, STREAM, STRICT, TS,
-    WINDOW,
+    BLOCKS, CHANNELS, CMR, LENGTH, LIMIT, MAX_BLOCKS, PT, REACH, RECORD, SEQ, SSRC, STREAM, STRICT,
+    TS, WINDOW,
 };
 use amr_frame::Codec;
 use media_params::Fmtp;
@@ -41,7 +41,7 @@ pub struct RecordWords {
 }
 
 /// What the words ask of `stream`, each in the range of its option. Whether the codec has the mode
-/// that is requested isn't tested here.
+/// that is requested, and whether the format has room for the group, isn't tested here.
 #[derive(Clone, Copy, Debug, PartialEq, Eq)]
 pub struct StreamWords {
     pub codec: Codec,
@@ -53,6 +53,8 @@ pub struct StreamWords {
     pub limit: u64,
     /// The new blocks of a packet, from 1 to 64.
     pub blocks: u8,
+    /// The packets of an interleaving group, from 1, which is no interleaving, to 16.
+    pub length: u8,
     /// The codec mode request of each packet, from 0 to 15, which is none.
     pub cmr: u8,
     /// The payload type of the packets, from 0 to 127.
@@ -144,6 +146,7 @@ fn stream(options: &Options<'_>, fmtp: Fmtp) -> StreamWords
         fmtp,
         limit: options.number_or_default(&LIMIT),
         blocks: options.number_or_default(&BLOCKS) as u8,
+        length: options.number_or_default(&LENGTH) as u8,
         cmr: options.number_or_default(&CMR) as u8,
         pt: options.number(&PT).unwrap_or(96) as u8,
         ssrc: options.number_or_default(&SSRC) as u32,

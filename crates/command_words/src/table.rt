@@ -163,9 +163,20 @@ pub const BLOCKS: Row = Row {
     ..SSRC
 };
 
+/// The packets of an interleaving group.
+pub const LENGTH: Row = Row {
+    name: "--length",
+    values: Values::Numbers {
+        least: 1,
+        greatest: 16,
+    },
+    ..BLOCKS
+};
+
 /// All rows.
-const TABLE: [Row; 14] = [
-    CODEC, CHANNELS, FMTP, PT, LIMIT, WINDOW, REACH, MAX_BLOCKS, STRICT, BLOCKS, CMR, SSRC, SEQ, TS,
+const TABLE: [Row; 15] = [
+    CODEC, CHANNELS, FMTP, PT, LIMIT, WINDOW, REACH, MAX_BLOCKS, STRICT, BLOCKS, LENGTH, CMR, SSRC,
+    SEQ, TS,
 ];
 
 impl Row {

@@ -37,6 +37,7 @@ const SENDING: StreamWords = StreamWords {
     pt: 96,
     limit: 1_099_511_627_776,
     blocks: 1,
+    length: 1,
     cmr: 15,
     ssrc: 0,
     seq: 0,
@@ -55,6 +56,7 @@ const OTHERS: StreamWords = StreamWords {
     },
     limit: 4,
     blocks: 64,
+    length: 16,
     cmr: 8,
     pt: 5,
     ssrc: 4_294_967_295,
@@ -231,12 +233,21 @@ fn a_file_is_sent_as_the_options_say(rt: HostRuntime) -> Result<(), Fail> {
             "stream --codec AMR --cmr 14",
             StreamWords { cmr: 14, ..SENDING },
         ),
+        // Nor whether the format has room for the group.
+        (
+            "stream --codec AMR --length 2",
+            StreamWords {
+                length: 2,
+                ..SENDING
+            },
+        ),
+        ("stream --codec AMR --length 01", SENDING),
         (
             "stream --codec AMR --ts 9",
             StreamWords { ts: 9, ..SENDING },
         ),
         (
-            "stream --ts 1 --seq 65535 --ssrc 4294967295 --cmr 8 --blocks 64 --limit 4 --pt 5 --channels 6 --fmtp crc=1;mode-set=8,0 --codec AMR-WB",
+            "stream --ts 1 --seq 65535 --ssrc 4294967295 --cmr 8 --blocks 64 --length 16 --limit 4 --pt 5 --channels 6 --fmtp crc=1;mode-set=8,0 --codec AMR-WB",
             OTHERS,
         ),
     ];
@@ -249,7 +260,7 @@ fn a_file_is_sent_as_the_options_say(rt: HostRuntime) -> Result<(), Fail> {
 
 #[test]
 fn other_words_give_no_job(rt: HostRuntime) -> Result<(), Fail> {
-    let lines: [&str; 63] = [
+    let lines: [&str; 65] = [
         "",
         "play --codec AMR",
         "Record --codec AMR",
@@ -302,7 +313,9 @@ fn other_words_give_no_job(rt: HostRuntime) -> Result<(), Fail> {
         "stream --codec AMR --ssrc 4294967296",
         "stream --codec AMR --seq 65536",
         "stream --codec AMR --seq 1 --seq 1",
-        "stream --codec AMR --length 2",
+        "stream --codec AMR --length 0",
+        "stream --codec AMR --length 17",
+        "record --codec AMR --length 1",
         "stream --codec AMR --repeat 0",
         "stream --codec AMR --skip 1",
         "list --codec AMR",
