@@ -8,7 +8,7 @@ _amrgate() {
   fi
   case ${COMP_WORDS[1]} in
     record) names=(--codec --channels --fmtp --strict --pt --window --reach --max-blocks --limit) ;;
-    stream) names=(--codec --channels --fmtp --pt --blocks --cmr --ssrc --seq --ts --limit) ;;
+    stream) names=(--codec --channels --fmtp --pt --blocks --length --cmr --ssrc --seq --ts --limit) ;;
     *) return ;;
   esac
   if ((COMP_CWORD % 2 == 1)); then
