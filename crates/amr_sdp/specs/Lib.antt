@@ -1,3 +1,4 @@
 pub mod Answers
 pub mod Offers
+pub mod Texts
 pub mod Types

@@ -10,6 +10,7 @@ ghost use Rattle.arrayvec.specs.ArrayString.{array_string_len};
 ghost use Rattle.media_params.specs.Fmtp.{parameters};
 ghost use Rattle.media_params.specs.Gathered.{added, parted, with_param};
 ghost use Rattle.refusals.specs.declared.param.Param.TheVariants as params;
+ghost use Rattle.spec_media.specs.Pieces.{is_empty};
 ghost use Rattle.spec_media.specs.Printing.{mode_list, on, other_than_1, printed};
 ghost use Rattle.spec_modes.specs.ModeSets.{has};
 
@@ -40,6 +41,15 @@ pub fn print_fmtp<S: Sink>(fmtp: &Fmtp, sink: &mut S) -> Result<(), Failed>
     ensures same { S.same sink.old sink.new }
 {
     write_whole(sink, gather(fmtp).as_str().as_bytes())
+}
+
+impl Fmtp {
+    /// Whether all parameters are at their defaults, so that none is printed.
+    pub fn is_default(&self) -> bool
+        ensures { result ≡ is_empty (printed (parameters self.now)) }
+    {
+        gather(self).is_empty()
+    }
 }
 
 /// The text of parameters.
