@@ -1,6 +1,7 @@
 -- A packet as it is written is its header before its payload, where it has nothing else.
 use Rattle.std.proofs.Common.{◌≡◌, ℕ, ◌+◌, ◌-◌, ◌≤◌, List, [], ◌++◌, length, take, drop, sym, ap, ◌∙◌, append-nil, arith, option_map}
 use Rattle.std.proofs.lemmas.List.{append_assoc, drop_at, length-append, length-take-le, take_at}
+use Rattle.std.proofs.Math.Seq.{take-append-add}
 use borrow.Rule.Slice.PartMut.{post_of, put_mid}
 use Rattle.amr_sender.specs.Packets.{IsPlainHeader}
 use Rattle.rtp_packet.specs.View.{extension_of}
@@ -8,9 +9,10 @@ use Rattle.rtp_packet.specs.Written.{extension_octets, fixed_octets, octets_32, 
 use Rattle.rtp_packet.specs.declared.fields.RtpFields.{RtpFields}
 use Rattle.std.specs.Prelude.{flat_map}
 
-pub headed : (f : RtpFields) (payload : List ℕ) → IsPlainHeader f
-    → written (packet_of f payload) ≡ written (packet_of f []) ++ payload
-headed f payload h =
+-- its header is the fixed one, where it has nothing else
+plainly : (f : RtpFields) (payload : List ℕ) → IsPlainHeader f
+    → written (packet_of f payload) ≡ fixed_octets (packet_of f []) ++ payload
+plainly f payload h =
     let sources : flat_map octets_32 f.sources.now ≡ [] = ap (flat_map octets_32) h.sources in
     let extension : extension_octets (option_map (λ e. extension_of e.0 e.1.now) f.extension) ≡ [] =
     ap (λ o. extension_octets (option_map (λ e. extension_of e.0 e.1.now) o)) h.extension in
@@ -18,7 +20,12 @@ headed f payload h =
     let fixed = fixed_octets (packet_of f []) in
     (λ i. fixed ++ sources i ++ extension i ++ payload ++ padding i)
     ∙ append-nil (fixed ++ payload)
-    ∙ sym (λ i. (fixed ++ sources i ++ extension i ++ [] ++ padding i) ++ payload)
+
+pub headed : (f : RtpFields) (payload : List ℕ) → IsPlainHeader f
+    → written (packet_of f payload) ≡ written (packet_of f []) ++ payload
+headed f payload h =
+    plainly f payload h
+    ∙ ap (λ l. l ++ payload) (sym (plainly f [] h ∙ append-nil (fixed_octets (packet_of f []))))
 
 -- the payload was written into the room, and then the header before it
 pub begun_with : (f : RtpFields) (payload head room octets : List ℕ) (n : ℕ) → IsPlainHeader f → length head ≡ 12
@@ -36,3 +43,14 @@ begun_with f payload head room octets n plain len size fits is said =
     ∙ take_at (head ++ octets) post (12 + n) whole
     ∙ (λ i. is i ++ said i)
     ∙ sym (headed f payload plain)
+
+-- the fixed header was written before a payload
+pub header_before : (f : RtpFields) (payload head out : List ℕ) (n : ℕ) → IsPlainHeader f
+    → head ≡ fixed_octets (packet_of f []) → take n (drop 12 out) ≡ payload
+    → take (12 + n) (head ++ drop 12 out) ≡ written (packet_of f payload)
+header_before f payload head out n plain is said =
+    let size : length head ≡ 12 = ap length is in
+    ap (λ m. take (m + n) (head ++ drop 12 out)) (sym size)
+    ∙ take-append-add head (drop 12 out) n
+    ∙ (λ i. is i ++ said i)
+    ∙ sym (plainly f payload plain)

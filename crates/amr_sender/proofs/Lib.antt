@@ -2,8 +2,10 @@ pub mod Adding
 pub mod Begun
 pub mod Counting
 pub mod Headed
+pub mod Packed
 pub mod Plans
 pub mod Putting
 pub mod Results
+pub mod Singly
 pub mod Steps
 pub mod Taken

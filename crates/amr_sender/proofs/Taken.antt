@@ -251,7 +251,7 @@ pub record Completes (v : View) (x : List Frame) (y : Behind) : Type 0 where
   pub full : v.blocks % (v.plan.blocks * v.plan.length) + 1 ≡ v.plan.blocks * v.plan.length
   pub tells : Tells v y (v.plan.blocks * v.plan.length) (v.blocks + 1)
 
-completed : (v : View) (b : List (List Frame)) (x : List Frame) (y : Behind) → Completes v x y → StandsFor v b
+pub completed : (v : View) (b : List (List Frame)) (x : List Frame) (y : Behind) → Completes v x y → StandsFor v b
     → begun v.plan (b ++ x ∷ []) ≡ begun v.plan b ++ held_turns v.plan y (v.held ++ x ∷ []) v.plan.length
 completed v b x y k st =
     let n = v.plan.blocks * v.plan.length in

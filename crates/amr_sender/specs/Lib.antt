@@ -3,3 +3,4 @@ pub mod Packets
 pub mod Plans
 pub mod Sender
 pub mod Sends
+pub mod Single

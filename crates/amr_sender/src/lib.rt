@@ -6,6 +6,7 @@ mod groups;
 mod laws;
 mod packet;
 mod sender;
+mod single;
 #[cfg(test)]
 mod tests;
 

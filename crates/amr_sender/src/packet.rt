@@ -63,7 +63,8 @@ pub fn speaks(codec: Codec, block: &[Cell]) -> bool
 }
 
 /// The fields of a header.
-fn fields_of(plan: &SendPlan, head: Head) -> RtpFields<'static>
+#[inline(always)]
+pub fn fields_of(plan: &SendPlan, head: Head) -> RtpFields<'static>
     requires number { plan.now.pt ≤ 127 }
     requires first { head.first < 2 ^ 54 }
 

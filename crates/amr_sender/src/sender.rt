@@ -1,12 +1,16 @@
 // The sender of a stream.
-ghost use Rattle.std.specs.Prelude.{◌≡◌, ◌≤◌, IfOk, IsTrue, List, OnErr, OnOk, [], false, length, true};
+ghost use Rattle.std.specs.Prelude.{◌≡◌, ◌↔◌, ◌≤◌, ◌++◌, ◌∷◌, ℕ, IfOk, IsTrue, List, OnErr, OnOk, [], false, length, true};
 ghost use Rattle.amr_frame.specs.Blocks.{IsPresentBlock, frames_of};
 ghost use Rattle.amr_sender.specs.Plans.{IsPlain};
 ghost use Rattle.rtp_packet.specs.PacketSteps.{PacketStep};
 ghost use Rattle.spec_sending.specs.Plans.{IsPlan};
+ghost use Rattle.spec_store.specs.StorageReading.{frame_in, is_unit};
 
 use crate::groups::{put_group, put_rest, rest_size};
-use crate::packet::{Behind, MOST_OCTETS, speaks};
+use crate::packet::{Behind, Head, MOST_OCTETS, speaks};
+use crate::single::{
+    MOST_UNIT, SINGLE_ROOM, begins_talkspurt, is_single, unit_speaks, write_single,
+};
 use amr_frame::Cell;
 use amr_group::{GroupBuffer, GroupPlan};
 use amr_io::Failed;
@@ -47,6 +51,7 @@ impl Sender {
     ghost use Rattle.amr_frame.specs.Frames.{Frame};
     ghost use Rattle.amr_sender.specs.Sender.{StandsFor, TakesBlock};
     ghost use Rattle.amr_sender.specs.Sends.{Finishes, FinishesPart, Takes, TakesPart};
+    ghost use Rattle.amr_sender.specs.Single.{Makes, SendsSingly};
     ghost use Rattle.spec_sending.specs.Sending.{begun};
 
     /// A sender that has got nothing, with room for one packet and one group of blocks.
@@ -128,6 +133,47 @@ impl Sender {
         self.packets += u64::from(self.plan.length);
         self.spent = false;
         Ok(())
+    }
+
+    /// Whether each packet carries one frame, in a bandwidth-efficient payload (RFC 4867, 4.3):
+    /// `make_packet` makes such packets.
+    pub fn sends_singly(&self) -> bool
+        ensures { IsTrue result ↔ SendsSingly self.now.plan }
+    {
+        is_single(&self.plan)
+    }
+
+    /// Takes the frame that stands first in octets of a storage file (RFC 4867, 5.3) as the next
+    /// block, writes its packet to the front of `out`, and tells how many octets the packet has.
+    ///
+    /// What stands behind the frame, and its padding bits, may be anything.
+    pub fn make_packet(&mut self, unit: &[u8; MOST_UNIT], out: &mut [u8; SINGLE_ROOM]) -> usize
+        requires single { SendsSingly self.old.plan }
+        requires takes { TakesBlock self.old }
+
+        ensures made { Makes self.old self.new
+            (frame_in self.old.plan.profile.codec unit.now ∷ []) out.new result }
+        ensures own { (own more : List ℕ) → unit.now ≡ own ++ more
+            → is_unit self.old.plan.profile.codec own ≡ true
+            → frame_in self.old.plan.profile.codec own
+            ≡ frame_in self.old.plan.profile.codec unit.now }
+        ensures some { 1 ≤ result }
+        ensures most { result ≤ 76 }
+        ensures plan { self.new.plan ≡ self.old.plan }
+    {
+        let speech = unit_speaks(self.plan.profile.codec, unit);
+        let head = Head {
+            marked: begins_talkspurt(speech, self.spoken),
+            number: self.packets,
+            first: self.blocks,
+            stride: 1,
+            index: 0,
+        };
+        let size = write_single(&self.plan, head, unit, out);
+        self.spoken = speech;
+        self.blocks += 1;
+        self.packets += 1;
+        size
     }
 
     /// Puts the packets of the blocks that are left, fewer than a group, and ends the sender.

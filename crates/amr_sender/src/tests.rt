@@ -1,4 +1,4 @@
-ghost use Rattle.std.specs.Prelude.{◌≡◌, ◌≤◌, IsTrue, false, length};
+ghost use Rattle.std.specs.Prelude.{◌≡◌, ◌≤◌, ◌<◌, IsTrue, false, length};
 ghost use Rattle.amr_frame.specs.Cells.{frame_of};
 ghost use Rattle.amr_frame.specs.Frames.{IsFrame};
 ghost use Rattle.amr_frame.specs.Tables.{is_reserved};
@@ -187,5 +187,150 @@ fn a_front_of_the_packets_is_put_where_there_is_no_room(rt: HostRuntime) -> Resu
         );
         assert_eq!(rt; sink.octets().len(), room, "room for {room}");
     }
+    Ok(())
+}
+
+// The first packet of a sender of one frame a packet, and how many octets it has.
+fn first_packet(
+    alloc: Global,
+    codec: Codec,
+    unit: &[u8; 61],
+    out: &mut [u8; 76],
+) -> Result<usize, AllocError> {
+    let consecutive = plan(1, 0, 0);
+    let plan = SendPlan {
+        profile: Profile::plain(codec, 1),
+        ..consecutive
+    };
+    if let Err(_) = plan.check() {
+        return Ok(0);
+    }
+    let mut sender = Sender::create(alloc, plan)?;
+    if !sender.sends_singly() {
+        return Ok(0);
+    }
+    Ok(sender.make_packet(unit, out))
+}
+
+// A frame with this first octet, in a storage file that goes on behind it.
+fn unit_of(head: u8) -> [u8; 61] {
+    let mut unit = [head; 61];
+    for k in 1..61 {
+        unit[k] = (k * 37 % 256) as u8;
+    }
+    unit
+}
+
+// Whether bit `k` of octets is 1.
+fn bit(octets: &[u8; 61], k: usize) -> bool
+    requires { k < 488 }
+{
+    octets[k / 8] >> (7 - k % 8) as u32 & 1 == 1
+}
+
+// The payload of a frame of so many bits, bit by bit: no request, F = 0, the type, Q, the bits of
+// the frame, and zeros.
+fn payload_of(unit: &[u8; 61], bits: usize) -> [u8; 61]
+    requires { bits ≤ 477 }
+{
+    let mut octets = [0u8; 61];
+    for k in 0..10 + bits {
+        let one = match k {
+            0..=3 => true,
+            4 => false,
+            5..=9 => bit(unit, k - 4),
+            _ => bit(unit, k - 2),
+        };
+        if one {
+            octets[k / 8] |= 128 >> (k % 8) as u32;
+        }
+    }
+    octets
+}
+
+#[test]
+fn a_frame_of_each_type_makes_its_packet(rt: HostRuntime) -> Result<(), Fail> {
+    let types = [
+        (Codec::Amr, 0, 95),
+        (Codec::Amr, 1, 103),
+        (Codec::Amr, 2, 118),
+        (Codec::Amr, 3, 134),
+        (Codec::Amr, 4, 148),
+        (Codec::Amr, 5, 159),
+        (Codec::Amr, 6, 204),
+        (Codec::Amr, 7, 244),
+        (Codec::Amr, 8, 39),
+        (Codec::Amr, 15, 0),
+        (Codec::AmrWb, 0, 132),
+        (Codec::AmrWb, 1, 177),
+        (Codec::AmrWb, 2, 253),
+        (Codec::AmrWb, 3, 285),
+        (Codec::AmrWb, 4, 317),
+        (Codec::AmrWb, 5, 365),
+        (Codec::AmrWb, 6, 397),
+        (Codec::AmrWb, 7, 461),
+        (Codec::AmrWb, 8, 477),
+        (Codec::AmrWb, 9, 40),
+        (Codec::AmrWb, 14, 0),
+        (Codec::AmrWb, 15, 0),
+    ];
+    for (codec, ft, bits) in types {
+        assert!(rt; ft < 16 && bits < 478);
+        // Q is 1 in every other type, and the three padding bits of the octet are 1.
+        let unit = unit_of(ft * 8 + ft % 2 * 4 + 0x83);
+        let mut out = [0xAA; 76];
+        let size = first_packet(rt.alloc(), codec, &unit, &mut out)?;
+        let octets = (bits + 17) / 8;
+        assert_eq!(rt; size, 12 + octets, "type {ft}");
+        assert_eq!(rt;
+            &out[12..12 + octets],
+            &payload_of(&unit, bits)[..octets],
+            "type {ft}"
+        );
+    }
+    Ok(())
+}
+
+// The headers of the packets of frames with these first octets, where a sender could be made.
+fn headers_of(
+    alloc: Global,
+    plan: SendPlan,
+    heads: &[u8],
+) -> Result<Option<Vec<[u8; 12]>>, AllocError>
+    requires plain { IsPlain plan }
+    requires few { length heads.now ≤ 8 }
+{
+    let mut headers = Vec::new(alloc);
+    if let Err(_) = plan.check() {
+        return Ok(None);
+    }
+    let mut sender = Sender::create(alloc, plan)?;
+    if !sender.sends_singly() {
+        return Ok(None);
+    }
+    let mut out = [0; 76];
+    for head in heads {
+        sender.make_packet(&unit_of(*head), &mut out);
+        let mut header = [0; 12];
+        header.copy_from_slice(&out[..12]);
+        headers.push(header)?;
+    }
+    Ok(Some(headers))
+}
+
+#[test]
+fn packets_of_single_frames_have_their_headers(rt: HostRuntime) -> Result<(), Fail> {
+    // Speech of type 7, NO_DATA, speech of type 0 twice, a silence descriptor, speech again.
+    let heads = [0x3C, 0x7C, 0x04, 0x00, 0x44, 0x3C];
+    let headers = headers_of(rt.alloc(), plan(1, 0xFFFE, 0xFFFF_FF60), &heads)?;
+    let expected = [
+        [0x80, 0xE0, 0xFF, 0xFE, 0xFF, 0xFF, 0xFF, 0x60, 1, 2, 3, 4],
+        [0x80, 0x60, 0xFF, 0xFF, 0, 0, 0, 0, 1, 2, 3, 4],
+        [0x80, 0xE0, 0, 0, 0, 0, 0, 0xA0, 1, 2, 3, 4],
+        [0x80, 0x60, 0, 1, 0, 0, 1, 0x40, 1, 2, 3, 4],
+        [0x80, 0x60, 0, 2, 0, 0, 1, 0xE0, 1, 2, 3, 4],
+        [0x80, 0xE0, 0, 3, 0, 0, 2, 0x80, 1, 2, 3, 4],
+    ];
+    assert_eq!(rt; headers.as_deref(), Some(&expected[..]));
     Ok(())
 }
