@@ -9,3 +9,4 @@ pub mod Ahead
 pub mod Wrong
 pub mod Settled
 pub mod Told
+pub mod Passed

@@ -4,3 +4,4 @@ pub mod Sights
 pub mod Reading
 pub mod Telling
 pub mod Seeking
+pub mod Passing

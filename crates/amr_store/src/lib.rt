@@ -3,11 +3,13 @@
 
 mod block;
 mod frame;
+mod front;
 mod header;
 mod reader;
 mod step;
 mod writer;
 
+pub use front::{MOST_UNIT, UnitAhead};
 pub use reader::StoreReader;
 pub use spec_store::StoreRefusal;
 pub use step::Step;

@@ -5,6 +5,7 @@ ghost use Rattle.amr_io.specs.Fault.{HasCause};
 ghost use Rattle.amr_io.specs.declared.gate.Gate.TheVariants as gate;
 
 use crate::block::{block_end, block_sight, read_block};
+use crate::front::{UnitAhead, unit_ahead};
 use crate::header::{header_cut, header_sight};
 use crate::step::{Found, Phase, Sight, Step};
 use amr_frame::{Cell, Codec};
@@ -31,6 +32,8 @@ pub struct StoreReader {
 
 impl StoreReader {
     ghost use Rattle.amr_store.specs.Reading.{Began, Counts, HasEnded, HasGiven, HoldsNothing, IsFresh, IsLeft, IsUsable, WentOn, channels_of, codec_of, given, held, limit_of};
+    ghost use Rattle.amr_store.specs.Passing.{Passes, ShowsUnit};
+    ghost use Rattle.amr_store.specs.Sights.{HoldsFrame};
     ghost use Rattle.amr_store.specs.Telling.{TellsHeaderIn, TellsNextIn};
     ghost use Rattle.amr_store.specs.Seeking.{Ends, FillsCells, HasBlock, Looks, Settles, Sought, len_of};
     ghost use Rattle.amr_store.specs.declared.step.Sight.TheVariants as sight;
@@ -215,5 +218,25 @@ impl StoreReader {
         let found = self.seek(source);
         self.fill_cells(found, cells);
         self.settle(found)
+    }
+
+    /// The frame that stands first in the octets held: none where these are fewer than 61, or its
+    /// type is reserved.
+    #[inline(always)]
+    pub fn ahead(&self) -> Option<UnitAhead<'_>>
+        ensures { ShowsUnit (codec_of self.now) (held self.now) result }
+    {
+        unit_ahead(self.codec, self.inlet.held())
+    }
+
+    /// Passes the frame that stands first in the octets held, as the next block of a file of one
+    /// channel. `size` is how many octets it has.
+    #[inline(always)]
+    pub fn pass_unit(&mut self, size: usize)
+        requires one { channels_of self.old ≡ 1 }
+        requires unit { HoldsFrame (codec_of self.old) (held self.old) size }
+        ensures { Passes size self.old self.new }
+    {
+        self.inlet.take(size);
     }
 }

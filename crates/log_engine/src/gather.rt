@@ -1,5 +1,5 @@
 // Octets that wait to be written.
-ghost use Rattle.std.specs.Prelude.{◌≡◌, ℕ, ◌+◌, ◌-◌, ◌≤◌, ◌<◌, ◌++◌, [], List, length, drop, IfOk, OnOk, slice_range};
+ghost use Rattle.std.specs.Prelude.{◌≡◌, ℕ, ◌+◌, ◌-◌, ◌≤◌, ◌<◌, ◌++◌, [], List, length, drop, take, IfOk, OnOk, slice_range};
 ghost use Rattle.std.specs.Io.KnownBytes.{Keeps, append_known};
 ghost use Rattle.amr_io.specs.Steps.{SinkStep};
 ghost use Rattle.log_engine.specs.Tray.{Tray, Grows};
@@ -32,12 +32,16 @@ impl Model for Gather {
 }
 
 /// Puts octets at `at`, and leaves what stands before.
+#[inline(always)]
 fn put_at(tray: &mut [u8], at: usize, octets: &[u8])
     requires { at + length octets.now ≤ length tray.old }
 
     ensures size { length tray.new ≡ length tray.old }
     ensures put { (from : ℕ) → from ≤ at → slice_range tray.new from (at + length octets.now)
         ≡ slice_range tray.old from at ++ octets.now }
+    ensures front { (from count : ℕ) → from ≤ at → count ≤ length octets.now
+        → slice_range tray.new from (at + count)
+        ≡ slice_range tray.old from at ++ take count octets.now }
 {
     tray[at..at + octets.len()].copy_from_slice(octets);
 }
@@ -88,6 +92,21 @@ impl Gather {
     {
         put_at(&mut self.tray, self.used, octets);
         self.used += octets.len();
+    }
+
+    /// Takes the first `count` of some octets to those that wait, where there is room for them all:
+    /// they are copied as a whole, whatever `count` is.
+    #[inline(always)]
+    pub fn push_front<const N: usize>(&mut self, octets: &[u8; N], count: usize)
+        requires count { count ≤ N }
+        requires room { self.old.used + N ≤ self.old.room }
+        ensures { self.new ≡ record self.old {
+          waiting = self.old.waiting ++ take count octets.now;
+          used = self.old.used + count;
+        } }
+    {
+        put_at(&mut self.tray, self.used, octets);
+        self.used += count;
     }
 
     /// Drops the first octets that wait.
