@@ -15,6 +15,7 @@ pub use laws::reads_what_was_printed;
 pub use printing::print_fmtp;
 pub use reading::read_fmtp;
 pub use refusals::{FmtpRefusal, Param};
+pub use values::read_modes;
 
 #[cfg(test)]
 mod tests;

@@ -1,4 +1,4 @@
-use crate::{Fmtp, FmtpRefusal, Param, print_fmtp, read_fmtp};
+use crate::{Fmtp, FmtpRefusal, Param, print_fmtp, read_fmtp, read_modes};
 use amr_frame::{Codec, Profile};
 use amr_io::{Failed, MemorySink};
 use amr_mode::ModeSet;
@@ -68,6 +68,27 @@ fn texts_are_read_or_refused(rt: HostRuntime) -> Result<(), Fail> {
 // The format that a text gives for AMR-WB.
 fn wide_profile(text: &[u8]) -> Result<Profile, FmtpRefusal> {
     Ok(read_fmtp(Codec::AmrWb, text)?.profile(Codec::AmrWb, 1, 64))
+}
+
+#[test]
+fn lists_of_modes_are_read(rt: HostRuntime) -> Result<(), Fail> {
+    let rows: [(&[u8], Option<u16>); 8] = [
+        (b"0", Some(1)),
+        (b" 7 ,\t00000,7", Some(0x81)),
+        (b"7,6,5,4,3,2,1,0", Some(0xff)),
+        (b"8", None),
+        (b"", None),
+        (b"0,", None),
+        (b"000000", None),
+        (b"0;1", None),
+    ];
+    for (text, bits) in rows {
+        let read = read_modes(Codec::Amr, text).map(|set| set.bits);
+        assert_eq!(rt; read, bits);
+    }
+    let wide = read_modes(Codec::AmrWb, b"8").map(|set| set.bits);
+    assert_eq!(rt; wide, Some(0x100));
+    Ok(())
 }
 
 #[test]

@@ -66,7 +66,9 @@ fn are_digits(text: &[u8]) -> bool
     text.iter().all(|octet| octet.is_ascii_digit())
 }
 
-/// The modes of a list of numbers with commas between them, if each is a speech mode of the codec.
+/// The modes of a list of numbers with commas between them, if each is a speech mode of the codec
+/// (RFC 4867, 8.1 and 8.2, mode-set). Spaces and tabs may stand around each number, and neither
+/// order nor repeats have a meaning.
 pub fn read_modes(codec: Codec, text: &[u8]) -> Option<ModeSet>
     ensures allowed { is_some result ≡ is_allowed codec Modes text.now }
     ensures modes { IfSome result (λ set. members set ≡ modes_of codec text.now) }
