@@ -1,8 +1,9 @@
 -- The job of the words, and what it means: ours.
 use Rattle.std.specs.Prelude.{◌≡◌, ℕ, List, Option, Some}
 use Rattle.amr_cli.specs.declared.job.Job.{Job}
-use Rattle.amr_cli.specs.declared.job.Job.TheVariants.{RecordLog, StreamFile}
+use Rattle.amr_cli.specs.declared.job.Job.TheVariants.{AnswerOffer, RecordLog, StreamFile}
 use Rattle.amr_gateway.specs.Jobs.{IsServed as IsRecordJob, recording_of}
+use Rattle.answer_engine.specs.Jobs.{IsServed as IsAnswerJob, answering_of}
 use Rattle.command_words.specs.Built.{built, commands}
 use Rattle.spec_jobs.specs.Jobs.{job_by, meaning_of}
 use Rattle.spec_jobs.specs.Jobs as asked
@@ -17,6 +18,7 @@ job_of words = job_by commands built words
 abbrev pub job_in : Job → asked.Job
 job_in (RecordLog job) = asked.RecordLog (recording_of job) job.limit
 job_in (StreamFile job) = asked.StreamFile job.plan job.limit
+job_in (AnswerOffer job) = asked.AnswerOffer (answering_of job) job.limit
 
 -- what a job of the program means
 abbrev pub meaning_in : Job → Meaning
@@ -26,6 +28,7 @@ meaning_in job = meaning_of (job_in job)
 abbrev pub IsServed : Job → Type 0
 IsServed (RecordLog job) = IsRecordJob job
 IsServed (StreamFile job) = IsStreamJob job
+IsServed (AnswerOffer job) = IsAnswerJob job
 
 -- this holds of what the job of the words means, if they give one
 abbrev pub Asked : List (List ℕ) → (Meaning → Type 0) → Type 0

@@ -5,7 +5,7 @@ ghost use Rattle.amr_cli.specs.Runs.{SameSink};
 ghost use Rattle.spec_run.specs.Meanings.{Works, work_of};
 
 use crate::job::Job;
-use amr_gateway::{record_log, stream_file};
+use amr_gateway::{answer_offer, record_log, stream_file};
 use amr_io::{Sink, Source};
 use run_report::{CountLines, RunEnd, RunReport};
 use std::alloc::Global;
@@ -28,6 +28,7 @@ pub fn run_engine<I: Source, O: Sink>(
     match job {
         Job::RecordLog(job) => record_log(alloc, job, input, output),
         Job::StreamFile(job) => stream_file(alloc, job, input, output),
+        Job::AnswerOffer(job) => answer_offer(alloc, job, input, output),
     }
 }
 
@@ -38,5 +39,6 @@ pub fn noted_lines(job: &Job) -> CountLines
     match job {
         Job::RecordLog(_) => CountLines::Recording,
         Job::StreamFile(_) => CountLines::Sending,
+        Job::AnswerOffer(_) => CountLines::Answering,
     }
 }

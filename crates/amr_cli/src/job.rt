@@ -1,14 +1,15 @@
-ghost use Rattle.std.specs.Prelude.{◌≡◌, IfSome, option_map};
+ghost use Rattle.std.specs.Prelude.{◌≡◌, IfSome, Some, option_map};
 ghost use Rattle.amr_cli.specs.Jobs.{IsServed, job_in, job_of};
-ghost use Rattle.command_words.specs.Asked.{AreSendable, AreWithin};
-ghost use Rattle.command_words.specs.Asked.{recording_of, sending_of};
-ghost use Rattle.spec_jobs.specs.Jobs.{RecordLog as Recorded, StreamFile as Sent, if_valid};
+ghost use Rattle.command_words.specs.Asked.{AreSendable, AreWanted, AreWithin};
+ghost use Rattle.command_words.specs.Asked.{answering_of, recording_of, sending_of};
+ghost use Rattle.spec_jobs.specs.Jobs.{AnswerOffer as Answered, RecordLog as Recorded};
+ghost use Rattle.spec_jobs.specs.Jobs.{StreamFile as Sent, if_valid};
 ghost use Rattle.spec_words.specs.Words.{texts};
 
 use amr_frame::Profile;
-use amr_gateway::{RecordJob, StreamJob};
+use amr_gateway::{AnswerJob, RecordJob, StreamJob, Wanted};
 use amr_playout::Plan;
-use command_words::{Command, RecordWords, StreamWords, read_command};
+use command_words::{AnswerWords, Command, RecordWords, StreamWords, read_command};
 use spec_sending::SendPlan;
 
 /// What the words ask for.
@@ -18,6 +19,8 @@ pub enum Job {
     RecordLog(RecordJob),
     /// Streaming a storage file.
     StreamFile(StreamJob),
+    /// Answering an offer.
+    AnswerOffer(AnswerJob),
 }
 
 /// The job of the words; `None` exactly where they give none.
@@ -29,6 +32,7 @@ pub fn read_words(words: &[String]) -> Option<Job>
         None => None,
         Some(Command::Record(values)) => record_job(&values),
         Some(Command::Stream(values)) => stream_job(&values),
+        Some(Command::Answer(values)) => Some(answer_job(&values)),
     }
 }
 
@@ -88,4 +92,26 @@ fn stream_job(values: &StreamWords) -> Option<Job>
             limit: values.limit,
         })),
     }
+}
+
+/// Answering as these values ask; each job of them is valid.
+fn answer_job(values: &AnswerWords) -> Job
+    requires within { AreWanted values.now }
+
+    ensures job { Some (job_in result)
+        ≡ if_valid (Answered (answering_of values.now) values.now.limit) }
+    ensures served { IsServed result }
+{
+    Job::AnswerOffer(AnswerJob {
+        wanted: Wanted {
+            codec: values.codec,
+            channels: values.channels,
+            modes: values.modes,
+            crc: values.crc,
+            sorting: values.sorting,
+            interleaving: values.interleaving,
+        },
+        port: values.port,
+        limit: values.limit,
+    })
 }

@@ -1,5 +1,5 @@
-//! Records packet logs of AMR and AMR-WB speech as storage files, and sends such files as packet
-//! logs.
+//! Records packet logs of AMR and AMR-WB speech as storage files, sends such files as packet logs,
+//! and answers offers of such speech.
 #![tactic(auto)]
 
 mod engine;

@@ -9,6 +9,7 @@ mod recorder;
 #[cfg(test)]
 mod tests;
 
+pub use answer_engine::{AnswerJob, Wanted, answer_offer};
 pub use job::RecordJob;
 pub use record::record_log;
 pub use run_report::{Counts, RunEnd, RunReport};

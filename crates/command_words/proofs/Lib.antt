@@ -1,4 +1,6 @@
+pub mod Answering
 pub mod Formats
 pub mod Numbers
 pub mod Pairs
 pub mod Plain
+pub mod Taken

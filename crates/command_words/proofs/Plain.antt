@@ -1,20 +1,18 @@
 -- Options that no row allows aren't given.
-use Rattle.std.proofs.Common.{◌≡◌, ℕ, Bool, true, false, ◌&&◌, cond, List, [], ◌∷◌, Option, None, Some, find, option_map, bytes_eq, refl, sym, subst, ap, ◌∙◌, ◌⊎◌, inl, inr}
-use Rattle.std.specs.List.{list_all, list_any}
+use Rattle.std.proofs.Common.{◌≡◌, ℕ, Bool, true, false, cond, List, [], ◌∷◌, None, Some, find, option_map, bytes_eq, refl, ap, ◌∙◌}
+use Rattle.std.specs.List.{list_all}
 use Rattle.std.proofs.lemmas.Bool.{and_parts}
 use Rattle.std.proofs.lemmas.Slice.Eq.{bytes_eq-Decides}
 use Rattle.amr_frame.specs.declared.codec.Codec.{Codec}
-use Rattle.command_words.specs.Built.{built}
 use Rattle.command_words.specs.Options.{ArePlain, is_allowed}
-use Rattle.spec_words.specs.Given.{allows, are_allowed, are_options}
 use Rattle.spec_words.specs.Table.{repeat, skip}
-use Rattle.spec_words.specs.Words.{Pair, pairs, value_of}
+use Rattle.spec_words.specs.Words.{Pair, value_of}
 
 clash : (b : Bool) → b ≡ true → b ≡ false → ⊥
 clash b x y = cc
 
 -- a pair of another option is passed over
-passed : (name : List ℕ) (p : Pair) (rest : List Pair) → bytes_eq p.option name ≡ false → value_of name (p ∷ rest) ≡ value_of name rest
+pub passed : (name : List ℕ) (p : Pair) (rest : List Pair) → bytes_eq p.option name ≡ false → value_of name (p ∷ rest) ≡ value_of name rest
 passed name p rest e = ap (λ b. option_map (λ q. q.value) (cond b (Some p) (find (λ q. bytes_eq q.option name) rest))) e
 
 -- an option that no pair of the test has

@@ -1,15 +1,20 @@
 -- What the words of the command line ask for, as the code has it.
 use Rattle.std.specs.Prelude.{false, List, IfSome}
 use Rattle.amr_frame.specs.declared.codec.Codec.{Codec}
+use Rattle.amr_mode.specs.Members.{members}
+use Rattle.amr_mode.specs.declared.mode_set.ModeSet.{ModeSet}
 use Rattle.command_words.specs.declared.command.Command.{Command}
-use Rattle.command_words.specs.declared.command.Command.TheVariants.{Record, Stream}
+use Rattle.command_words.specs.declared.command.AnswerWords.{AnswerWords}
+use Rattle.command_words.specs.declared.command.Command.TheVariants.{Answer, Record, Stream}
 use Rattle.command_words.specs.declared.command.RecordWords.{RecordWords}
 use Rattle.command_words.specs.declared.command.StreamWords.{StreamWords}
 use Rattle.command_words.specs.Rows.{IsWithin}
 use Rattle.media_params.specs.Fmtp.{format_of, parameters}
 use Rattle.media_params.specs.declared.fmtp.Fmtp.{Fmtp}
-use Rattle.spec_jobs.specs.Jobs.{Job, RecordLog, StreamFile}
+use Rattle.spec_jobs.specs.Jobs.{AnswerOffer, Job, RecordLog, StreamFile}
 use Rattle.spec_jobs.specs.Plans.{most_blocks, window_of}
+use Rattle.spec_modes.specs.ModeSets.{IsModeSet}
+use Rattle.spec_offer.specs.Answering.{Answering}
 use Rattle.spec_record.specs.Recording.{Recording}
 use Rattle.spec_sending.specs.declared.plan.SendPlan.{SendPlan}
 use Rattle.spec_session.specs.Session.{rules_of}
@@ -38,10 +43,25 @@ sending_of w = record {
   ts = w.ts;
 }
 
+-- what an answer is given by, by these values
+abbrev pub answering_of : AnswerWords → Answering
+answering_of w = record {
+  wanted = record {
+    codec = w.codec;
+    channels = w.channels;
+    modes = members w.modes;
+    crc = w.crc;
+    sorting = w.sorting;
+    interleaving = w.interleaving;
+  };
+  port = w.port;
+}
+
 -- the job that a command stands for
 abbrev pub asked_in : Command → Job
 asked_in (Record w) = RecordLog (recording_of w) w.limit
 asked_in (Stream w) = StreamFile (sending_of w) w.limit
+asked_in (Answer w) = AnswerOffer (answering_of w) w.limit
 
 -- the values that options give `record` and `stream`, beside these media parameters
 abbrev pub record_words : Codec → List Pair → Fmtp → RecordWords
@@ -72,6 +92,19 @@ stream_words c given f = record {
   ts = number_or_default option.ts given;
 }
 
+-- those that options give `answer`, beside these modes
+abbrev pub answer_words : Codec → List Pair → ModeSet → AnswerWords
+answer_words c given modes = record {
+  codec = c;
+  channels = number_or_default option.channels given;
+  modes = modes;
+  crc = is_on option.crc given;
+  sorting = is_on option.sorting given;
+  interleaving = number_or_default option.interleaving given;
+  port = number_or_default option.port given;
+  limit = number_or_default option.offer_limit given;
+}
+
 -- each value is in the range of its option
 abbrev pub AreWithin : RecordWords → Type 0
 AreWithin w =
@@ -86,6 +119,13 @@ AreSendable w =
     × IsWithin option.cmr w.cmr × IsWithin option.pt w.pt × IsWithin option.ssrc w.ssrc
     × IsWithin option.seq w.seq × IsWithin option.ts w.ts
 
+abbrev pub AreWanted : AnswerWords → Type 0
+AreWanted w =
+    IsWithin option.channels w.channels × IsModeSet w.codec (members w.modes)
+    × IsWithin option.interleaving w.interleaving × IsWithin option.port w.port
+    × IsWithin option.offer_limit w.limit
+
 abbrev pub HasValues : Command → Type 0
 HasValues (Record w) = AreWithin w
 HasValues (Stream w) = AreSendable w
+HasValues (Answer w) = AreWanted w

@@ -1,14 +1,15 @@
 -- Which commands and which options are built.
 use Rattle.std.specs.Prelude.{ℕ, List, [], ◌∷◌, map}
-use Rattle.spec_words.specs.Table.{Row, blocks, channels, cmr, codec, fmtp, group, limit, max_blocks, only, pt, reach, record_name, seq, ssrc, stream_name, strict, ts, window}
+use Rattle.spec_words.specs.Table.{Row, answer_name, blocks, channels, cmr, codec, crc, fmtp, group, interleaving, limit, max_blocks, modes, offer_limit, only, port, pt, reach, record_name, seq, sorting, ssrc, stream_name, strict, ts, window}
 
 abbrev pub commands : List (List ℕ)
-commands = record_name ∷ stream_name ∷ []
+commands = record_name ∷ stream_name ∷ answer_name ∷ []
 
 abbrev pub rows : List Row
 rows =
     codec ∷ channels ∷ fmtp ∷ pt ∷ limit ∷ window ∷ reach ∷ max_blocks
-    ∷ strict ∷ blocks ∷ group ∷ cmr ∷ ssrc ∷ seq ∷ ts ∷ []
+    ∷ strict ∷ blocks ∷ group ∷ cmr ∷ ssrc ∷ seq ∷ ts
+    ∷ offer_limit ∷ modes ∷ crc ∷ sorting ∷ interleaving ∷ port ∷ []
 
 -- the rows as these commands have them
 abbrev pub built : List Row

@@ -1,11 +1,13 @@
 -- The options that are given behind a command that is built.
-use Rattle.std.specs.Prelude.{◌≡◌, ℕ, Bool, List, None}
+use Rattle.std.specs.Prelude.{◌≡◌, ℕ, Bool, true, List, None, Some}
 use Rattle.std.specs.List.{list_any}
 use Rattle.amr_frame.specs.declared.codec.Codec.{Codec}
 use Rattle.command_words.specs.Built.{built}
-use Rattle.spec_words.specs.Given.{allows, are_allowed, are_options, text_at}
-use Rattle.spec_words.specs.Table.{repeat, skip}
-use Rattle.spec_words.specs.Words.{Pair, all_differ, pairs}
+use Rattle.spec_media.specs.Params.{Modes}
+use Rattle.spec_media.specs.Params as media
+use Rattle.spec_words.specs.Given.{allows, text_at}
+use Rattle.spec_words.specs.Table.{modes, repeat, skip}
+use Rattle.spec_words.specs.Words.{Pair}
 
 -- whether one of the rows that are built allows a pair
 abbrev pub is_allowed : List ℕ → Codec → List Pair → Pair → Bool
@@ -15,3 +17,8 @@ is_allowed command c given p = list_any (allows command c given p) built
 pub record ArePlain (given : List Pair) : Type 0 where
   pub repeat : text_at repeat given ≡ None
   pub skip : text_at skip given ≡ None
+
+-- the list of modes that is given, where one is, has modes of the codec alone
+pub record HasModes (c : Codec) (given : List Pair) : Type 0 where
+  pub allowed : (text : List ℕ) → text_at modes given ≡ Some text
+      → media.is_allowed c Modes text ≡ true

@@ -4,7 +4,7 @@ use Rattle.command_words.specs.declared.options.Options.{Options}
 use Rattle.command_words.specs.declared.table.Row.{Row as CodeRow}
 use Rattle.command_words.specs.declared.values.Values.{Values as CodeValues}
 use Rattle.command_words.specs.declared.values.Values.TheVariants as code
-use Rattle.spec_words.specs.Table.{Codecs, Numbers, Parameters, Row, Values}
+use Rattle.spec_words.specs.Table.{Codecs, ModeLists, Numbers, Parameters, Row, Values}
 use Rattle.spec_words.specs.Words.{Pair, pairs, texts}
 
 -- the values and the row that those of the code stand for
@@ -12,6 +12,7 @@ abbrev pub values_of : CodeValues → Values
 values_of code.Codecs = Codecs
 values_of (code.Numbers least greatest) = Numbers least greatest
 values_of code.Parameters = Parameters
+values_of code.ModeLists = ModeLists
 
 abbrev pub row_of : CodeRow → Row
 row_of r = record {

@@ -1,20 +1,24 @@
 ghost use Rattle.std.specs.Prelude.{◌≡◌, ◌≤◌, IfSome, option_map};
-ghost use Rattle.command_words.specs.Asked.{AreSendable, AreWithin, HasValues};
-ghost use Rattle.command_words.specs.Asked.{asked_in, record_words, stream_words};
+ghost use Rattle.amr_mode.specs.Members.{members};
+ghost use Rattle.command_words.specs.Asked.{AreSendable, AreWanted, AreWithin, HasValues};
+ghost use Rattle.command_words.specs.Asked.{answer_words, asked_in};
+ghost use Rattle.command_words.specs.Asked.{record_words, stream_words};
 ghost use Rattle.command_words.specs.Built.{built, commands};
-ghost use Rattle.command_words.specs.Options.{ArePlain};
+ghost use Rattle.command_words.specs.Options.{ArePlain, HasModes};
 ghost use Rattle.command_words.specs.Rows.{given_in};
 ghost use Rattle.media_params.specs.Fmtp.{AreShort, parameters};
 ghost use Rattle.spec_jobs.specs.Jobs.{asked_by, asked_of};
 ghost use Rattle.spec_jobs.specs.Plans.{group_of};
+ghost use Rattle.spec_modes.specs.ModeSets.{IsModeSet};
 ghost use Rattle.spec_words.specs.Words.{texts};
 
 use crate::options::Options;
 use crate::table::{
-    BLOCKS, CHANNELS, CMR, LENGTH, LIMIT, MAX_BLOCKS, PT, REACH, RECORD, SEQ, SSRC, STREAM, STRICT,
-    TS, WINDOW,
+    ANSWER, BLOCKS, CHANNELS, CMR, CRC, INTERLEAVING, LENGTH, LIMIT, MAX_BLOCKS, OFFER_LIMIT, PORT,
+    PT, REACH, RECORD, SEQ, SORTING, SSRC, STREAM, STRICT, TS, WINDOW,
 };
 use amr_frame::Codec;
+use amr_mode::ModeSet;
 use media_params::Fmtp;
 
 /// What the words ask of `record`, each in the range of its option. Whether the window has room for the blocks of a
@@ -67,6 +71,26 @@ pub struct StreamWords {
     pub ts: u32,
 }
 
+/// What the words ask of `answer`, each in the range of its option.
+#[derive(Clone, Copy, Debug, PartialEq, Eq)]
+pub struct AnswerWords {
+    pub codec: Codec,
+    /// The frames of one block, from 1 to 6.
+    pub channels: u8,
+    /// The modes that may be sent, of the codec.
+    pub modes: ModeSet,
+    /// Whether frames may have CRCs.
+    pub crc: bool,
+    /// Whether the octets of frames may stand in the robust order.
+    pub sorting: bool,
+    /// The most blocks in an interleaving group, 0 where payloads may not be interleaved.
+    pub interleaving: u16,
+    /// The port of the answer's media line, from 1 on.
+    pub port: u16,
+    /// The most octets of the offer that are read, from 1 to 65,536.
+    pub limit: u64,
+}
+
 /// A command with the values of its options.
 #[derive(Clone, Copy, Debug, PartialEq, Eq)]
 pub enum Command {
@@ -74,6 +98,8 @@ pub enum Command {
     Record(RecordWords),
     /// Writes a storage file as a log of packets.
     Stream(StreamWords),
+    /// Answers an offer.
+    Answer(AnswerWords),
 }
 
 /// Reads the words of the command line, the first of which is the command. There is no job where there is no word, the
@@ -90,7 +116,8 @@ pub fn read_command(words: &[String]) -> Option<Command>
 
 /// What a command with these options asks.
 fn asked(command: &str, options: &Options<'_>) -> Option<Command>
-    requires { ArePlain (given_in options.now) }
+    requires plain { ArePlain (given_in options.now) }
+    requires modes { HasModes options.now.codec (given_in options.now) }
     ensures job { option_map asked_in result
         ≡ asked_of commands command.now (given_in options.now) options.now.codec }
     ensures within { IfSome result HasValues }
@@ -99,6 +126,7 @@ fn asked(command: &str, options: &Options<'_>) -> Option<Command>
     match command {
         RECORD => Some(Command::Record(record(options, fmtp))),
         STREAM => Some(Command::Stream(stream(options, fmtp))),
+        ANSWER => Some(Command::Answer(answer(options, options.modes()))),
         _ => None,
     }
 }
@@ -152,5 +180,24 @@ fn stream(options: &Options<'_>, fmtp: Fmtp) -> StreamWords
         ssrc: options.number_or_default(&SSRC) as u32,
         seq: options.number_or_default(&SEQ) as u16,
         ts: options.number_or_default(&TS) as u32,
+    }
+}
+
+/// What these options ask of `answer`, beside these modes.
+fn answer(options: &Options<'_>, modes: ModeSet) -> AnswerWords
+    requires { IsModeSet options.now.codec (members modes) }
+
+    ensures values { result ≡ answer_words options.now.codec (given_in options.now) modes }
+    ensures within { AreWanted result }
+{
+    AnswerWords {
+        codec: options.codec,
+        channels: options.number_or_default(&CHANNELS) as u8,
+        modes,
+        crc: options.number_or_default(&CRC) == 1,
+        sorting: options.number_or_default(&SORTING) == 1,
+        interleaving: options.number_or_default(&INTERLEAVING) as u16,
+        port: options.number_or_default(&PORT) as u16,
+        limit: options.number_or_default(&OFFER_LIMIT),
     }
 }

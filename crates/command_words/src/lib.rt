@@ -7,7 +7,7 @@ mod table;
 mod values;
 mod words;
 
-pub use command::{Command, RecordWords, StreamWords, read_command};
+pub use command::{AnswerWords, Command, RecordWords, StreamWords, read_command};
 
 #[cfg(test)]
 mod tests;

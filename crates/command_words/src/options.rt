@@ -1,18 +1,22 @@
 ghost use Rattle.std.specs.Prelude.{◌≡◌, IfSome, option_map};
+ghost use Rattle.amr_mode.specs.Members.{members};
 ghost use Rattle.media_params.specs.Fmtp.{parameters};
-ghost use Rattle.spec_words.specs.Given.{are_allowed, codec_of};
-ghost use Rattle.spec_words.specs.Given.{number_at, number_or_default, parameters_at};
-ghost use Rattle.spec_words.specs.Table.{fmtp};
+ghost use Rattle.spec_media.specs.Reading.{modes_of};
+ghost use Rattle.spec_modes.specs.ModeSets.{IsModeSet};
+ghost use Rattle.spec_words.specs.Given.{are_allowed, codec_of, modes_or_all};
+ghost use Rattle.spec_words.specs.Given.{number_at, number_or_default, parameters_at, text_at};
+ghost use Rattle.spec_words.specs.Table.{fmtp, modes};
 ghost use Rattle.spec_words.specs.Words.{texts, pairs};
 ghost use Rattle.command_words.specs.Built.{built};
-ghost use Rattle.command_words.specs.Options.{ArePlain};
+ghost use Rattle.command_words.specs.Options.{ArePlain, HasModes};
 ghost use Rattle.command_words.specs.Rows.{HasDefault, IsWithin, given_in, row_of};
 
-use crate::table::{CODEC, FMTP, Row, is_allowed};
+use crate::table::{CODEC, FMTP, MODES, Row, is_allowed};
 use crate::values::read_codec;
 use crate::words::{all_differ, value_of};
 use amr_frame::Codec;
-use media_params::{Fmtp, read_fmtp};
+use amr_mode::ModeSet;
+use media_params::{Fmtp, read_fmtp, read_modes};
 
 /// The options behind a command, and the codec among them.
 #[derive(Clone, Copy)]
@@ -30,6 +34,7 @@ impl<'a> Options<'a> {
             ≡ codec_of built command.now (texts words.now) }
         ensures given { IfSome result (λ options. given_in options ≡ pairs (texts words.now)) }
         ensures plain { IfSome result (λ options. ArePlain (given_in options)) }
+        ensures modes { IfSome result (λ options. HasModes options.codec (given_in options)) }
     {
         let codec = read_codec(value_of(words, CODEC.name)?)?;
         let options = Options { codec, words };
@@ -61,6 +66,22 @@ impl<'a> Options<'a> {
     {
         let text = value_of(self.words, FMTP.name).unwrap_or("");
         read_fmtp(self.codec, text.as_bytes()).ok()
+    }
+
+    /// The modes that are wanted, all of the codec where none are given.
+    pub fn modes(&self) -> ModeSet
+        requires { HasModes self.now.codec (given_in self.now) }
+        ensures modes { members result ≡ modes_or_all self.now.codec
+            (option_map (modes_of self.now.codec) (text_at modes (given_in self.now))) }
+        ensures is_set { IsModeSet self.now.codec (members result) }
+    {
+        let Some(text) = value_of(self.words, MODES.name) else {
+            return ModeSet::all(self.codec);
+        };
+        let Some(set) = read_modes(self.codec, text.as_bytes()) else {
+            unreachable!()
+        };
+        set
     }
 
     /// The number behind the option of a row, where the option is given.

@@ -24,12 +24,15 @@ pub const RECORD: &str = "record";
 /// The command that writes a storage file as a log of packets.
 pub const STREAM: &str = "stream";
 
+/// The command that answers an offer.
+pub const ANSWER: &str = "answer";
+
 /// The codec, which has to be given.
 pub const CODEC: Row = Row {
     name: "--codec",
     values: Values::Codecs,
     default: None,
-    commands: &[RECORD, STREAM],
+    commands: &[ANSWER, RECORD, STREAM],
 };
 
 /// The frames of one block.
@@ -47,7 +50,8 @@ pub const CHANNELS: Row = Row {
 pub const FMTP: Row = Row {
     name: "--fmtp",
     values: Values::Parameters,
-    ..CODEC
+    default: None,
+    commands: &[RECORD, STREAM],
 };
 
 /// The one payload type that is read, or that is sent. Its default depends on the command.
@@ -57,10 +61,10 @@ pub const PT: Row = Row {
         least: 0,
         greatest: 127,
     },
-    ..CODEC
+    ..FMTP
 };
 
-/// The most octets that are read.
+/// The most octets of a log or a file that are read.
 pub const LIMIT: Row = Row {
     name: "--limit",
     values: Values::Numbers {
@@ -68,7 +72,7 @@ pub const LIMIT: Row = Row {
         greatest: 1_099_511_627_776,
     },
     default: Some(1_099_511_627_776),
-    ..CODEC
+    ..FMTP
 };
 
 /// The most blocks in a payload. Its default depends on the window.
@@ -173,10 +177,87 @@ pub const LENGTH: Row = Row {
     ..BLOCKS
 };
 
+/// The most octets of an offer that are read.
+pub const OFFER_LIMIT: Row = Row {
+    name: "--limit",
+    values: Values::Numbers {
+        least: 1,
+        greatest: 65_536,
+    },
+    default: Some(65_536),
+    commands: &[ANSWER],
+};
+
+/// The modes that are wanted, as a list. All of the codec are where it is absent.
+pub const MODES: Row = Row {
+    name: "--modes",
+    values: Values::ModeLists,
+    default: None,
+    ..OFFER_LIMIT
+};
+
+/// Whether frames may have CRCs: 1 where they may.
+pub const CRC: Row = Row {
+    name: "--crc",
+    values: Values::Numbers {
+        least: 0,
+        greatest: 1,
+    },
+    default: Some(1),
+    ..OFFER_LIMIT
+};
+
+/// Whether the octets of frames may stand in the robust order: 1 where they may.
+pub const SORTING: Row = Row {
+    name: "--sorting",
+    ..CRC
+};
+
+/// The most blocks in an interleaving group, 0 where payloads may not be interleaved.
+pub const INTERLEAVING: Row = Row {
+    name: "--interleaving",
+    values: Values::Numbers {
+        least: 0,
+        greatest: 65_535,
+    },
+    default: Some(65_535),
+    ..OFFER_LIMIT
+};
+
+/// The port of the answer's media line.
+pub const PORT: Row = Row {
+    name: "--port",
+    values: Values::Numbers {
+        least: 1,
+        greatest: 65_535,
+    },
+    default: Some(9),
+    ..OFFER_LIMIT
+};
+
 /// All rows.
-const TABLE: [Row; 15] = [
-    CODEC, CHANNELS, FMTP, PT, LIMIT, WINDOW, REACH, MAX_BLOCKS, STRICT, BLOCKS, LENGTH, CMR, SSRC,
-    SEQ, TS,
+const TABLE: [Row; 21] = [
+    CODEC,
+    CHANNELS,
+    FMTP,
+    PT,
+    LIMIT,
+    WINDOW,
+    REACH,
+    MAX_BLOCKS,
+    STRICT,
+    BLOCKS,
+    LENGTH,
+    CMR,
+    SSRC,
+    SEQ,
+    TS,
+    OFFER_LIMIT,
+    MODES,
+    CRC,
+    SORTING,
+    INTERLEAVING,
+    PORT,
 ];
 
 impl Row {

@@ -1,4 +1,4 @@
-use crate::{Command, RecordWords, StreamWords, read_command};
+use crate::{AnswerWords, Command, RecordWords, StreamWords, read_command};
 use amr_frame::Codec;
 use amr_mode::ModeSet;
 use media_params::Fmtp;
@@ -62,6 +62,17 @@ const OTHERS: StreamWords = StreamWords {
     ssrc: 4_294_967_295,
     seq: 65_535,
     ts: 1,
+};
+
+const ANSWERING: AnswerWords = AnswerWords {
+    codec: Codec::Amr,
+    channels: 1,
+    modes: ModeSet { bits: 0xff },
+    crc: true,
+    sorting: true,
+    interleaving: 65_535,
+    port: 9,
+    limit: 65_536,
 };
 
 // What the words of a line ask, which stand between single spaces.
@@ -259,8 +270,75 @@ fn a_file_is_sent_as_the_options_say(rt: HostRuntime) -> Result<(), Fail> {
 }
 
 #[test]
+fn an_offer_is_answered_as_the_options_say(rt: HostRuntime) -> Result<(), Fail> {
+    let wide = AnswerWords {
+        codec: Codec::AmrWb,
+        modes: ModeSet { bits: 0x1ff },
+        ..ANSWERING
+    };
+    let all = AnswerWords {
+        codec: Codec::AmrWb,
+        channels: 6,
+        modes: ModeSet { bits: 0x101 },
+        crc: false,
+        sorting: false,
+        interleaving: 0,
+        port: 65_535,
+        limit: 1,
+    };
+    let of_modes = |bits: u16| AnswerWords {
+        modes: ModeSet { bits },
+        ..ANSWERING
+    };
+    let rows = [
+        ("answer --codec AMR", ANSWERING),
+        ("answer --codec AMR-WB", wide),
+        // Order and repeats have no meaning, zeros may stand in front.
+        ("answer --modes 7,0,007,0 --codec AMR", of_modes(0x81)),
+        ("answer --codec AMR --modes 0,1,2,3,4,5,6,7", ANSWERING),
+        (
+            "answer --codec AMR --crc 00",
+            AnswerWords {
+                crc: false,
+                ..ANSWERING
+            },
+        ),
+        (
+            "answer --codec AMR --sorting 0 --crc 01",
+            AnswerWords {
+                sorting: false,
+                ..ANSWERING
+            },
+        ),
+        (
+            "answer --codec AMR --port 1",
+            AnswerWords {
+                port: 1,
+                ..ANSWERING
+            },
+        ),
+        (
+            "answer --codec AMR --limit 65536 --interleaving 0000000000004",
+            AnswerWords {
+                interleaving: 4,
+                ..ANSWERING
+            },
+        ),
+        (
+            "answer --limit 1 --port 65535 --interleaving 0 --sorting 0 --crc 0 --modes 8,0 --channels 6 --codec AMR-WB",
+            all,
+        ),
+    ];
+    for (line, job) in rows {
+        let asked = read(rt.alloc(), line)?;
+        assert_eq!(rt; asked, Some(Command::Answer(job)), "of {line}");
+    }
+    Ok(())
+}
+
+#[test]
 fn other_words_give_no_job(rt: HostRuntime) -> Result<(), Fail> {
-    let lines: [&str; 65] = [
+    let lines: [&str; 85] = [
         "",
         "play --codec AMR",
         "Record --codec AMR",
@@ -326,6 +404,26 @@ fn other_words_give_no_job(rt: HostRuntime) -> Result<(), Fail> {
         "record --fmtp mode-set=8 --codec AMR",
         "stream --codec AMR --fmtp crc=1;crc=1",
         "stream --codec AMR --fmtp =1",
+        "answer",
+        "answer --modes 0",
+        "answers --codec AMR",
+        "answer --codec AMR --modes 8",
+        "answer --modes 9 --codec AMR-WB",
+        "answer --codec AMR --modes ",
+        "answer --codec AMR --modes 0,,2",
+        "answer --codec AMR --modes 000000",
+        "answer --codec AMR --modes all",
+        "answer --codec AMR --crc 2",
+        "answer --codec AMR --sorting 2",
+        "answer --codec AMR --interleaving 65536",
+        "answer --codec AMR --port 0",
+        "answer --codec AMR --port 65536",
+        "answer --codec AMR --limit 0",
+        "answer --codec AMR --limit 65537",
+        "answer --codec AMR --fmtp crc=1",
+        "answer --codec AMR --pt 97",
+        "answer --codec AMR --crc 1 --crc 1",
+        "record --codec AMR --modes 0",
     ];
     for line in lines {
         assert_eq!(rt; read(rt.alloc(), line)?, None, "of {line}");

@@ -7,7 +7,7 @@ ghost use Rattle.spec_words.specs.Table.{Numbers};
 
 use crate::options::Options;
 use amr_frame::Codec;
-use media_params::read_fmtp;
+use media_params::{read_fmtp, read_modes};
 
 /// The values that an option may have.
 #[derive(Clone, Copy)]
@@ -18,6 +18,8 @@ pub enum Values {
     Numbers { least: u64, greatest: u64 },
     /// The texts of media parameters of the codec that is given (RFC 4867, 8.1 to 8.3).
     Parameters,
+    /// The lists of modes of that codec, with commas between them (RFC 4867, 8.1 and 8.2).
+    ModeLists,
 }
 
 impl Values {
@@ -30,6 +32,7 @@ impl Values {
             Values::Codecs => read_codec(text).is_some(),
             Values::Numbers { .. } => self.number(text).is_some(),
             Values::Parameters => read_fmtp(options.codec, text.as_bytes()).is_ok(),
+            Values::ModeLists => read_modes(options.codec, text.as_bytes()).is_some(),
         }
     }
 
@@ -40,7 +43,7 @@ impl Values {
     {
         match *self {
             Values::Numbers { least, greatest } => number_between(text, least, greatest),
-            Values::Codecs | Values::Parameters => None,
+            Values::Codecs | Values::Parameters | Values::ModeLists => None,
         }
     }
 }

@@ -1,4 +1,5 @@
 use Rattle.std.proofs.Common.{◌∙◌, ap, sym, option_map}
+use Rattle.command_words.proofs.Answering.{answering}
 use Rattle.command_words.proofs.Formats.{recording, sending}
 use Rattle.command_words.specs.Rows.{given_in}
 use Rattle.media_params.specs.Fmtp.{parameters}
@@ -14,4 +15,10 @@ pub returns-in-stream-clause-job : goal.returns-in-stream-clause-job
 returns-in-stream-clause-job c =
     let read = sym c.fmtp.ensures ∙ ap (option_map parameters) c.in_ok-fmtp.was in
     sending c.args.options.now.codec (given_in c.args.options.now) c.in_ok-fmtp.fmtp c.stream.ensures.short read
-    c.args.command.now c.stream.result c.requires c.in-stream.is c.stream.ensures.values
+    c.args.command.now c.stream.result c.requires.plain c.in-stream.is c.stream.ensures.values
+
+pub returns-in-answer-clause-job : goal.returns-in-answer-clause-job
+returns-in-answer-clause-job c =
+    let read = sym c.fmtp.ensures ∙ ap (option_map parameters) c.in_ok-fmtp.was in
+    answering c.args.options.now.codec (given_in c.args.options.now) c.in_ok-fmtp.fmtp c.modes.result read c.modes.ensures.modes
+    c.args.command.now c.answer.result c.in-answer.is c.answer.ensures.values

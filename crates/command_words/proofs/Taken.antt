@@ -1,0 +1,45 @@
+-- Options that are given have values that a row allows.
+use Rattle.std.proofs.Common.{◌≡◌, ℕ, Bool, true, false, ◌&&◌, ◌||◌, cond, List, [], ◌∷◌, Some, find, option_map, bytes_eq, refl, sym, ap, ◌∙◌}
+use Rattle.std.specs.List.{list_all}
+use Rattle.std.proofs.lemmas.Bool.{and_parts}
+use Rattle.std.proofs.lemmas.Slice.Eq.{bytes_eq-Decides}
+use Rattle.amr_frame.specs.declared.codec.Codec.{Codec}
+use Rattle.command_words.proofs.Plain.{passed}
+use Rattle.command_words.specs.Built.{commands}
+use Rattle.command_words.specs.Options.{HasModes, is_allowed}
+use Rattle.spec_media.specs.Params.{Modes}
+use Rattle.spec_media.specs.Params as media
+use Rattle.spec_words.specs.Given.{is_of}
+use Rattle.spec_words.specs.Table.{modes, only}
+use Rattle.spec_words.specs.Words.{Pair, value_of}
+
+-- what stands behind an option passes the test that all pairs pass
+taken : (name : List ℕ) (test : Pair → Bool) (ps : List Pair) (value : List ℕ) → list_all test ps ≡ true
+    → value_of name ps ≡ Some value → test (record { option = name; value = value }) ≡ true
+taken name test [] value all is = absurd cc
+taken name test (p ∷ rest) value all is = by_name (bytes_eq p.option name) refl (taken name test rest value parts.1)
+  where
+    parts : (test p ≡ true) × (list_all test rest ≡ true)
+    parts = and_parts (test p) (list_all test rest) all
+
+    by_name : (b : Bool) → bytes_eq p.option name ≡ b
+        → (value_of name rest ≡ Some value → test (record { option = name; value = value }) ≡ true)
+        → test (record { option = name; value = value }) ≡ true
+    by_name true e behind =
+        let same : p.option ≡ name = (bytes_eq-Decides p.option name).0 e in
+        let found : Some p.value ≡ Some value = sym (ap (λ b. option_map (λ q. q.value) (cond b (Some p) (find (λ q. bytes_eq q.option name) rest))) e) ∙ is in
+        let value_is : p.value ≡ value = cc in
+        sym (λ i. test (record { option = same i; value = value_is i })) ∙ parts.0
+    by_name false e behind = behind (sym (passed name p rest e) ∙ is)
+
+-- the one row of the list allows it by its values
+by_values : (b a : Bool) → ((b && a) || false) ≡ true → a ≡ true
+by_values true true e = refl
+by_values true false e = absurd cc
+by_values false a e = absurd cc
+
+pub modes_taken : (command : List ℕ) (c : Codec) (given ps : List Pair) → list_all (is_allowed command c given) ps ≡ true → HasModes c ps
+modes_taken command c given ps all = record {
+  allowed = λ text is. by_values (is_of command (only commands modes)) (media.is_allowed c Modes text)
+      (taken modes.option (is_allowed command c given) ps text all is);
+}
