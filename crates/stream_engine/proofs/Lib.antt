@@ -5,3 +5,4 @@ pub mod Stops
 pub mod Goes
 pub mod Runs
 pub mod Came
+pub mod Units

@@ -24,7 +24,7 @@ use Rattle.spec_stream.specs.Streaming.{log_of_packets}
 use Rattle.stream_engine.specs.Sends.{SendsBlock, SendsBlockPart, SendsRest, SendsRestPart}
 
 -- the log of more packets
-logged_more : (less more packets : List RtpPacket) → more ≡ less ++ packets
+pub logged_more : (less more packets : List RtpPacket) → more ≡ less ++ packets
     → log_of_packets more ≡ log_of_packets less ++ log_of_packets packets
 logged_more less more packets e =
     ap log_of_packets e ∙ ap log_of (map-append written less packets)

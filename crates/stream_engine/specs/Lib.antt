@@ -2,3 +2,4 @@ pub mod Jobs
 pub mod Sends
 pub mod Reading
 pub mod Progress
+pub mod Held

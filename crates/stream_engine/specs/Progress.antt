@@ -61,17 +61,23 @@ pub record Out {B : Type 0} (o : sink.Ghosts B) (start : Start) (b : List (List 
   pub put : Appends start.got (logical o.got s) (begun_log start.plan b)
   pub grown : Grows start.got (o.got s.output.now)
 
--- a run goes on: the blocks of the octets that were given are sent
-pub record Underway {A B : Type 0} (i : source.Ghosts A) (o : sink.Ghosts B) (start : Start)
-    (now : State A B) : Type 0 where
+-- a run goes on: the blocks of the octets that were given are sent, and these octets are left of the
+-- input, where they are told
+pub record Going {B : Type 0} (o : sink.Ghosts B) (start : Start) (left : Option (List ℕ))
+    (v : View) (r : StoreReader) (s : GatherSink B) : Type 0 where
   pub valid : IsPlan start.plan
-  pub plan : now.sender.plan ≡ start.plan
-  pub is_for : IsFor start.plan start.limit now.reader
+  pub plan : v.plan ≡ start.plan
+  pub is_for : IsFor start.plan start.limit r
   pub front : List ℕ
-  pub given : HasGiven front now.reader
-  pub took : Consumes start.told (i.left now.input) (front ++ held now.reader)
-  pub stands : StandsFor now.sender (file_blocks start.plan front)
-  pub out : Out o start (file_blocks start.plan front) now.sink
+  pub given : HasGiven front r
+  pub took : Consumes start.told left (front ++ held r)
+  pub stands : StandsFor v (file_blocks start.plan front)
+  pub out : Out o start (file_blocks start.plan front) s
+
+-- the same, of where a run stands
+abbrev pub Underway : {A B : Type 0} → source.Ghosts A → sink.Ghosts B → Start → State A B
+    → Type 0
+Underway i o start now = Going o start (i.left now.input) now.sender now.reader now.sink
 
 -- a run stopped, where no block came behind these
 pub record Halted {A B : Type 0} (i : source.Ghosts A) (o : sink.Ghosts B) (start : Start)

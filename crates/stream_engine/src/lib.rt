@@ -2,6 +2,7 @@
 //! of packets, and the contract says that the run did what streaming means.
 #![tactic(auto)]
 
+mod held;
 mod job;
 mod run;
 mod send;

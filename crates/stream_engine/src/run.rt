@@ -8,6 +8,7 @@ ghost use Rattle.spec_run.specs.Meanings.{Works, work_of};
 ghost use Rattle.spec_stream.specs.Streaming.{stream_meaning};
 ghost use Rattle.stream_engine.specs.Progress.{After, MayStart, start_of, state};
 
+use crate::held::send_held;
 use crate::turns::{begin, close, make_way, send_next};
 use amr_frame::Cell;
 use amr_io::{Sink, Source};
@@ -23,7 +24,8 @@ struct Stop {
     blocks: u64,
 }
 
-/// Sends the blocks of a file until no more comes.
+/// Sends the blocks of a file until no more comes: those that are held where they stand, and else
+/// one by one.
 fn send_blocks<I: Source, O: Sink>(
     sender: &mut Sender,
     reader: &mut StoreReader,
@@ -48,6 +50,7 @@ fn send_blocks<I: Source, O: Sink>(
         return Stop { end, blocks };
     }
     'file: loop {
+        blocks += send_held(sender, reader, sink);
         if let Err(_) = make_way(reader, sink) {
             let end = RunEnd::WriteFault;
             return Stop { end, blocks };

@@ -6,6 +6,7 @@ use Rattle.stream_engine.specs.Progress.{start_of, state}
 use Rattle.stream_engine.proofs.Goes.{moved, opened, out_at_first, way_broke}
 use Rattle.stream_engine.proofs.Runs.{early_after}
 use Rattle.stream_engine.proofs.Told.{within_limit}
+use Rattle.stream_engine.proofs.Units.{reading_of}
 use Rattle.amr_store.specs.Reading.{limit_of}
 use Rattle.stream_engine.proofs.run.send_blocks.Goals as goal
 
@@ -42,77 +43,141 @@ file-init g c =
 pub returns-in-Err-clause-after : goal.returns-in-Err-clause-after
 returns-in-Err-clause-after g c =
     let first = state c.args.sender.now c.args.reader.now c.args.input.now c.args.sink.now in
-    way_broke g.I.Source g.O.Sink (start_of g.I.Source g.O.Sink first)
-    (state c.file.sender c.file.reader c.file.input c.file.sink) c.make_way.new.sink c.file.invariant.under
-    c.make_way.ensures.step.kept c.make_way.ensures.step.same.grows
+    let start = start_of g.I.Source g.O.Sink first in
+    let kept = c.file.invariant in
+    let held = c.send_held-blocks.ensures in
+    let under = held.goes start (g.I.Source.left c.file.input) kept.under in
+    let mid = state c.send_held-blocks.new.sender c.send_held-blocks.new.reader c.file.input
+    c.send_held-blocks.new.sink in
+    let way = c.make_way.ensures.step in
+    way_broke g.I.Source g.O.Sink start mid c.make_way.new.sink under way.kept way.same.grows
 
 pub returns-in-Err-clause-same : goal.returns-in-Err-clause-same
 returns-in-Err-clause-same g c =
-    same_through g.O.Sink g.met.O.Sink.transitive c.args.sink.now c.file.sink c.make_way.new.sink
-    c.file.invariant.same c.make_way.ensures.step.same
+    let same = same_through g.O.Sink g.met.O.Sink.transitive in
+    same c.args.sink.now c.send_held-blocks.new.sink c.make_way.new.sink
+    (same c.args.sink.now c.file.sink c.send_held-blocks.new.sink c.file.invariant.same
+    c.send_held-blocks.ensures.same) c.make_way.ensures.step.same
+
+pub send_next-requires-clause-takes : goal.send_next-requires-clause-takes
+send_next-requires-clause-takes g c =
+    let first = state c.args.sender.now c.args.reader.now c.args.input.now c.args.sink.now in
+    let start = start_of g.I.Source g.O.Sink first in
+    let kept = c.file.invariant in
+    let held = c.send_held-blocks.ensures in
+    let under = held.goes start (g.I.Source.left c.file.input) kept.under in
+    let few = kept.few in
+    let blocks = held.blocks in
+    let rises = held.rises in
+    let within = within_limit c.send_held-blocks.new.reader in
+    let limit = under.is_for.limit in
+    let most = c.requires.start.limit in
+    record {
+      unspent = under.stands.unspent;
+      few = omega (arith, few, blocks, rises, within, limit, most);
+    }
+
+pub send_next-requires-clause-reading : goal.send_next-requires-clause-reading
+send_next-requires-clause-reading g c =
+    let first = state c.args.sender.now c.args.reader.now c.args.input.now c.args.sink.now in
+    let start = start_of g.I.Source g.O.Sink first in
+    let kept = c.file.invariant in
+    let held = c.send_held-blocks.ensures in
+    let under = held.goes start (g.I.Source.left c.file.input) kept.under in
+    reading_of g.O.Sink start (g.I.Source.left c.file.input) c.send_held-blocks.new.sender
+    c.send_held-blocks.new.reader c.send_held-blocks.new.sink under
 
 pub returns-in-Some-send_next-clause-after : goal.returns-in-Some-send_next-clause-after
 returns-in-Some-send_next-clause-after g c =
     let first = state c.args.sender.now c.args.reader.now c.args.input.now c.args.sink.now in
     let start = start_of g.I.Source g.O.Sink first in
+    let kept = c.file.invariant in
+    let held = c.send_held-blocks.ensures in
+    let under = held.goes start (g.I.Source.left c.file.input) kept.under in
+    let mid = state c.send_held-blocks.new.sender c.send_held-blocks.new.reader c.file.input
+    c.send_held-blocks.new.sink in
     let way = c.in_default-make_way.ensures in
     c.in-Some-send_next.ensures.turned start
-    (moved g.I.Source g.O.Sink start (state c.file.sender c.file.reader c.file.input c.file.sink) c.make_way.new.sink
-    c.file.invariant.under way.step.kept way.step.same.grows) way.way
+    (moved g.I.Source g.O.Sink start mid c.make_way.new.sink under way.step.kept way.step.same.grows) way.way
 
 pub returns-in-Some-send_next-clause-blocks : goal.returns-in-Some-send_next-clause-blocks
 returns-in-Some-send_next-clause-blocks g c = λ ok.
-    c.file.invariant.counted
-    ∙ sym (ap (λ (v : View). v.blocks) (c.in-Some-send_next.ensures.idle c.in-Some-send_next.end refl ok))
+    let counted = c.file.invariant.counted in
+    let blocks = c.send_held-blocks.ensures.blocks in
+    let idle = ap (λ (v : View). v.blocks)
+    (c.in-Some-send_next.ensures.idle c.in-Some-send_next.end refl ok) in
+    omega (arith, counted, blocks, idle)
 
 pub returns-in-Some-send_next-clause-unspent : goal.returns-in-Some-send_next-clause-unspent
 returns-in-Some-send_next-clause-unspent g c = λ ok.
+    let first = state c.args.sender.now c.args.reader.now c.args.input.now c.args.sink.now in
+    let start = start_of g.I.Source g.O.Sink first in
+    let kept = c.file.invariant in
+    let held = c.send_held-blocks.ensures in
+    let under = held.goes start (g.I.Source.left c.file.input) kept.under in
     ap (λ (v : View). v.spent) (c.in-Some-send_next.ensures.idle c.in-Some-send_next.end refl ok)
-    ∙ c.file.invariant.under.stands.unspent
+    ∙ under.stands.unspent
 
 pub returns-in-Some-send_next-clause-same : goal.returns-in-Some-send_next-clause-same
 returns-in-Some-send_next-clause-same g c =
     let same = same_through g.O.Sink g.met.O.Sink.transitive in
-    same c.args.sink.now c.make_way.new.sink c.send_next.new.sink
-    (same c.args.sink.now c.file.sink c.make_way.new.sink c.file.invariant.same c.make_way.ensures.step.same)
-    c.in-Some-send_next.ensures.same
+    let first = c.args.sink.now in
+    let mid = c.send_held-blocks.new.sink in
+    let way = c.make_way.new.sink in
+    same first way c.send_next.new.sink (same first mid way
+    (same first c.file.sink mid c.file.invariant.same c.send_held-blocks.ensures.same)
+    c.make_way.ensures.step.same) c.in-Some-send_next.ensures.same
 
 pub file-smaller : goal.file-smaller
 file-smaller g c =
     let first = state c.args.sender.now c.args.reader.now c.args.input.now c.args.sink.now in
     let start = start_of g.I.Source g.O.Sink first in
+    let kept = c.file.invariant in
+    let held = c.send_held-blocks.ensures in
+    let under = held.goes start (g.I.Source.left c.file.input) kept.under in
+    let mid = state c.send_held-blocks.new.sender c.send_held-blocks.new.reader c.file.input
+    c.send_held-blocks.new.sink in
     let way = c.in_default-make_way.ensures in
     let turn = c.in_default-send_next.ensures in
-    let under = turn.turned start
-    (moved g.I.Source g.O.Sink start (state c.file.sender c.file.reader c.file.input c.file.sink) c.make_way.new.sink
-    c.file.invariant.under way.step.kept way.step.same.grows) way.way in
-    let before = c.file.invariant.under.is_for.limit in
-    let after = under.is_for.limit in
+    let after = turn.turned start
+    (moved g.I.Source g.O.Sink start mid c.make_way.new.sink under way.step.kept way.step.same.grows) way.way in
+    let limit = kept.under.is_for.limit in
+    let limit_after = after.is_for.limit in
+    let rises = held.rises in
     let more = (turn.counted refl).1 in
     let within = within_limit c.send_next.new.reader in
-    omega (arith, before, after, more, within)
+    omega (arith, limit, limit_after, rises, more, within)
 
 pub file-preserved : goal.file-preserved
 file-preserved g c =
     let first = state c.args.sender.now c.args.reader.now c.args.input.now c.args.sink.now in
     let start = start_of g.I.Source g.O.Sink first in
     let kept = c.file.invariant in
+    let held = c.send_held-blocks.ensures in
+    let under = held.goes start (g.I.Source.left c.file.input) kept.under in
+    let mid = state c.send_held-blocks.new.sender c.send_held-blocks.new.reader c.file.input
+    c.send_held-blocks.new.sink in
     let way = c.in_default-make_way.ensures in
     let turn = c.in_default-send_next.ensures in
-    let under = turn.turned start
-    (moved g.I.Source g.O.Sink start (state c.file.sender c.file.reader c.file.input c.file.sink) c.make_way.new.sink
-    kept.under way.step.kept way.step.same.grows) way.way in
+    let after = turn.turned start
+    (moved g.I.Source g.O.Sink start mid c.make_way.new.sink under way.step.kept way.step.same.grows) way.way in
     let same = same_through g.O.Sink g.met.O.Sink.transitive in
+    let sink = c.args.sink.now in
+    let counted = kept.counted in
+    let few = kept.few in
+    let blocks = held.blocks in
+    let rises = held.rises in
     let one = (turn.counted refl).0 in
     let more = (turn.counted refl).1 in
     record {
-      counted = omega (arith, kept.counted, one);
-      few = omega (arith, kept.few, one, more);
+      counted = omega (arith, counted, blocks, one);
+      few = omega (arith, few, blocks, rises, one, more);
       within = within_limit c.send_next.new.reader;
-      cells = turn.cells ∙ kept.cells ∙ kept.under.is_for.channels ∙ sym under.is_for.channels;
+      cells = turn.cells ∙ kept.cells ∙ kept.under.is_for.channels ∙ sym after.is_for.channels;
       calm_in = turn.faults.0 ∙ kept.calm_in;
-      calm_out = turn.faults.1 ∙ way.step.cause ∙ kept.calm_out;
-      same = same c.args.sink.now c.make_way.new.sink c.send_next.new.sink
-          (same c.args.sink.now c.file.sink c.make_way.new.sink kept.same way.step.same) turn.same;
-      under = under;
+      calm_out = turn.faults.1 ∙ way.step.cause ∙ ap g.O.Sink.faults held.still ∙ kept.calm_out;
+      same = same sink c.make_way.new.sink c.send_next.new.sink
+          (same sink mid.sink c.make_way.new.sink (same sink c.file.sink mid.sink kept.same held.same)
+          way.step.same) turn.same;
+      under = after;
     }
