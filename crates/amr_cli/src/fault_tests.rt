@@ -1,6 +1,9 @@
 use crate::run::run_gateway;
 use crate::status::Status;
-use crate::test_logs::{HEAD, RECORD, SEVEN, STREAM, at, join, log_of, three_packets, words_of};
+use crate::test_logs::{
+    ANSWER, FORMAT, HEAD, MAP, RECORD, SEVEN, STREAM, at, join, log_of, offer_with, three_packets,
+    words_of,
+};
 use amr_io::{MemorySink, MemorySource};
 use std::alloc::Global;
 use std::process::Abort;
@@ -89,7 +92,16 @@ fn faults_leave_a_front_of_what_is_put_out(rt: HostRuntime) -> Result<(), Fail> 
         whole: 46,
         noted: 19,
     };
-    expect_fronts(&rt, STREAM, &file, &sent)
+    expect_fronts(&rt, STREAM, &file, &sent)?;
+    // An offer of 290 octets, and its answer of 117: nothing is out before all of it is read.
+    let offer = offer_with(rt.alloc(), MAP, FORMAT)?;
+    let answered = Front {
+        early: 0,
+        late: 0,
+        whole: 117,
+        noted: 22,
+    };
+    expect_fronts(&rt, ANSWER, &offer, &answered)
 }
 
 #[test]

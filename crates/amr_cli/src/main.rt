@@ -2,6 +2,8 @@
 //! and answers offers of such speech.
 #![tactic(auto)]
 
+#[cfg(test)]
+mod answer_tests;
 mod engine;
 #[cfg(test)]
 mod fault_tests;

@@ -78,3 +78,27 @@ pub const STREAM: &str = "stream --codec AMR";
 
 // The header of a file of AMR frames of one channel.
 pub const HEAD: &[u8] = b"#!AMR\n";
+
+pub const ANSWER: &str = "answer --codec AMR";
+
+// An offer up to its eighth line.
+const OFFER_FRONT: &[u8] = b"v=0\no=- 1 1 IN IP4 192.0.2.1\ns=-\nc=IN IP4 192.0.2.1\nt=0 0\n\
+m=audio 49170 RTP/AVP 97 98 101\na=rtpmap:97 AMR-WB/16000\na=fmtp:97 mode-set=0,1,2; max-red=0\n";
+
+// Its ninth and its tenth line.
+pub const MAP: &str = "a=rtpmap:98 AMR/8000\n";
+
+pub const FORMAT: &str = "a=fmtp:98 mode-set=0,2,5,7; octet-align=1\n";
+
+// What stands behind them.
+const OFFER_BACK: &[u8] =
+    b"a=rtpmap:101 telephone-event/8000\na=fmtp:101 0-15\na=ptime:20\na=maxptime:240\n";
+
+// The offer with these lines in the place of its ninth and its tenth.
+pub fn offer_with(alloc: Global, map: &str, format: &str) -> Result<Vec<u8>, AllocError> {
+    let mut offer = Vec::from_slice(alloc, OFFER_FRONT)?;
+    offer.extend_from_slice(map.as_bytes())?;
+    offer.extend_from_slice(format.as_bytes())?;
+    offer.extend_from_slice(OFFER_BACK)?;
+    Ok(offer)
+}

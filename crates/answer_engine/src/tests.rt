@@ -178,6 +178,12 @@ fn bad_line(line: u32) -> RunEnd {
     RunEnd::Sdp(OfferRefusal::BadMap { line })
 }
 
+// The end of a run over an offer that has a parameter of a type twice.
+fn repeated(pt: u8, param: Param) -> RunEnd {
+    let refusal = FmtpRefusal::Repeated { param };
+    RunEnd::Sdp(OfferRefusal::Parameters { pt, refusal })
+}
+
 // The end of a run over an offer that has a value of a type that isn't allowed.
 fn bad_value(pt: u8, param: Param) -> RunEnd {
     let refusal = FmtpRefusal::BadValue { param };
@@ -327,4 +333,46 @@ fn an_offer_has_at_most_128_types(rt: HostRuntime) -> Result<(), Fail> {
         expect_end(&rt, &all, &text, end, refused)?;
     }
     Ok(())
+}
+
+// A front with so many of one line, or of one octet, behind it, as often as all of it has room in
+// 65,536 octets.
+fn filled(rt: &impl Alloc<A = Global>, front: &[u8], more: &[u8]) -> Result<Vec<u8>, Fail> {
+    let mut text = Vec::from_slice(rt.alloc(), front)?;
+    let times = match 65_536usize.saturating_sub(front.len()).checked_div(more.len()) {
+        Some(times) => times,
+        None => 0,
+    };
+    for _ in 0..times {
+        text.extend_from_slice(more)?;
+    }
+    Ok(text)
+}
+
+#[test]
+fn the_longest_offers_are_answered(rt: HostRuntime) -> Result<(), Fail> {
+    let all = job(&rt, 0xff, 65535, 65536);
+    let front = b"m=audio 9 RTP/AVP 98\na=rtpmap:98 AMR/8000\n";
+    let format = b"m=audio 9 RTP/AVP 98\na=rtpmap:98 AMR/8000\na=fmtp:98 ";
+    let no_audio = RunEnd::Sdp(OfferRefusal::NoAudio);
+    let rows: [(&[u8], &[u8], RunEnd); 10] = [
+        (format, b";", RunEnd::Done),
+        (format, b" ", RunEnd::Done),
+        (format, b"foo;", RunEnd::Done),
+        (format, b"crc=1;", repeated(98, Param::Crc)),
+        (front, b"\n", RunEnd::Done),
+        (front, b"a=rtpmap:98 AMR/8000\n", RunEnd::Done),
+        (front, b"a=fmtp:98 crc=1\r\n", RunEnd::Done),
+        (front, b"a=fmtp:98\n", bad_line(3)),
+        (b"", b"\n", no_audio),
+        (b"m=audio 9 RTP/AVP", b" 98", RunEnd::NoAnswer),
+    ];
+    for (front, more, end) in rows {
+        let text = filled(&rt, front, more)?;
+        expect_end(&rt, &all, &text, end, 0)?;
+    }
+    // With one octet more the limit is passed.
+    let mut text = filled(&rt, format, b";")?;
+    text.push(b';')?;
+    expect_end(&rt, &all, &text, RunEnd::LimitReached, 0)
 }
