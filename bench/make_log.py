@@ -1,9 +1,13 @@
 #!/usr/bin/env python3
-"""Makes packet logs (RFC 4571) to measure with, always the same for the same words.
+"""Makes packet logs (RFC 4571) and storage files (RFC 4867, 5) to measure with, always the same for
+the same words.
 
     make_log.py speech PACKETS [SEED] > file    AMR, bandwidth-efficient, one frame a packet, in order
     make_log.py reorder PACKETS [SEED] > file   the same, shuffled within 8, 5 % lost, 5 % doubled
     make_log.py noise PACKETS [SEED] > file     records of random octets
+    make_log.py file BLOCKS [SEED] > file       a storage file of AMR, with silences
+    make_log.py wideband BLOCKS [SEED] > file   a storage file of AMR-WB, all of 23.85 kbit/s
+    make_log.py six BLOCKS [SEED] > file        a storage file of AMR with six channels
 """
 import random
 import struct
@@ -56,6 +60,31 @@ def reorder(rng, packets):
     yield from held
 
 
+def frame(rng, ft, bits):
+    """A frame of a storage file: its type, Q 1, and its bits, filled with zeros."""
+    fill = -bits % 8
+    return bytes([ft << 3 | 4]) + (rng.getrandbits(bits) << fill if bits else 0).to_bytes((bits + 7) // 8, "big")
+
+
+def file(rng, blocks):
+    yield b"#!AMR\n"
+    for ft in types(rng, blocks):
+        yield frame(rng, ft, BITS[ft])
+
+
+def wideband(rng, blocks):
+    yield b"#!AMR-WB\n"
+    for _ in range(blocks):
+        yield frame(rng, 8, 477)
+
+
+def six(rng, blocks):
+    yield b"#!AMR_MC1.0\n" + struct.pack(">I", 6)
+    for ft in types(rng, blocks):
+        for _ in range(6):
+            yield frame(rng, ft, BITS[ft])
+
+
 def noise(rng, packets):
     for _ in range(packets):
         yield record(rng.randbytes(rng.randrange(0, 80)))
@@ -66,7 +95,8 @@ def main():
     rng = random.Random(int(sys.argv[3]) if len(sys.argv) > 3 else 1)
     out = sys.stdout.buffer
     waiting = bytearray()
-    for one in {"speech": speech, "reorder": reorder, "noise": noise}[kind](rng, packets):
+    kinds = [speech, reorder, noise, file, wideband, six]
+    for one in {make.__name__: make for make in kinds}[kind](rng, packets):
         waiting += one
         if len(waiting) > 1 << 20:
             out.write(waiting)

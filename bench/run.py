@@ -1,12 +1,12 @@
 #!/usr/bin/env python3
-"""Measures `record` beside `cat` on the same logs, in turns, the best of five runs each.
+"""Measures the commands beside `cat` on the same inputs, in turns, the best of five runs each.
 
-    bench/run.py [PACKETS]      one million packets by default; other programs: OTHER=path bench/run.py
+    bench/run.py [PACKETS [CASE..]]     one million packets by default, and all cases
 
-Only ratios within one run mean anything: other work on the machine moves all of its figures.
+OTHER=path measures another program with the same words in the same run. Only ratios within one run mean
+anything: other work on the machine moves all of its figures.
 """
 import os
-import resource
 import subprocess
 import sys
 import tempfile
@@ -14,7 +14,21 @@ import time
 
 HERE = os.path.dirname(os.path.abspath(__file__))
 PROGRAM = os.path.join(HERE, "..", "crates", "amr_cli", "out", "amr_cli")
-WORDS = ["record", "--codec", "AMR"]
+RECORD = ["record", "--codec", "AMR"]
+SORTED = ["--codec", "AMR-WB", "--fmtp", "crc=1; robust-sorting=1"]
+GROUPS = ["--codec", "AMR", "--fmtp", "interleaving=30"]
+SIX = ["--codec", "AMR", "--channels", "6", "--fmtp", "octet-align=1"]
+
+# The case, what `make_log.py` makes for it, the words that make a log of that, and the words that are measured.
+CASES = [
+    ("speech", "speech", None, RECORD),
+    ("reorder", "reorder", None, RECORD),
+    ("noise", "noise", None, RECORD),
+    ("sorted", "wideband", ["stream", *SORTED, "--blocks", "4"], ["record", *SORTED]),
+    ("groups", "file", ["stream", *GROUPS, "--blocks", "6", "--length", "5"], ["record", *GROUPS]),
+    ("six", "six", ["stream", *SIX], ["record", *SIX]),
+    ("stream", "file", None, ["stream", "--codec", "AMR"]),
+]
 
 
 def once(command, path):
@@ -44,28 +58,50 @@ def peak(command, path):
     return int(kilobytes[0])
 
 
+def make(kind, packets, words, path):
+    """Makes the input of a case: what `make_log.py` makes, or the log that the words make of that."""
+    with open(path, "wb") as out:
+        maker = subprocess.Popen([sys.executable, os.path.join(HERE, "make_log.py"), kind, str(packets)],
+                                 stdout=subprocess.PIPE if words else out)
+        if words:
+            subprocess.run([PROGRAM, *words], stdin=maker.stdout, stdout=out, stderr=subprocess.DEVNULL, check=True)
+        if maker.wait():
+            sys.exit(f"make_log.py {kind} failed")
+
+
+def measure(name, path, words, packets):
+    """Measures one case, and prints a line for each program."""
+    programs = {"cat": ["cat"], "amrgate": [PROGRAM, *words]}
+    if os.environ.get("OTHER"):
+        programs["other"] = [os.environ["OTHER"], *words]
+    size = os.path.getsize(path)
+    best = {}
+    for _ in range(5):
+        for who, command in programs.items():
+            run = once(command, path)
+            if run[3]:
+                sys.exit(f"{name}: {who} ended with {run[3]}")
+            if who not in best or run[1] + run[2] < best[who][1] + best[who][2]:
+                best[who] = run
+    floor = best["cat"][1] + best["cat"][2]
+    for who, (wall, user, system, _) in best.items():
+        most = peak(programs[who], path)
+        print(f"{name:8} {who:8} {size / wall / 1e6:8.0f} {packets / wall:11.0f} {user:7.3f} {system:7.3f}"
+              f" {most:8} {(user + system) / floor:8.2f}", flush=True)
+
+
 def main():
     packets = int(sys.argv[1]) if len(sys.argv) > 1 else 1_000_000
-    programs = {"cat": ["cat"], "record": [PROGRAM] + WORDS}
-    if os.environ.get("OTHER"):
-        programs["other"] = [os.environ["OTHER"]] + WORDS
-    print(f"{'log':8} {'program':8} {'MB/s':>8} {'packets/s':>11} {'user s':>7} {'sys s':>7} {'peak KB':>8} {'CPU/cat':>8}")
+    asked = sys.argv[2:]
+    print(f"{'case':8} {'program':8} {'MB/s':>8} {'packets/s':>11} {'user s':>7} {'sys s':>7} {'peak KB':>8} {'CPU/cat':>8}")
     with tempfile.TemporaryDirectory() as folder:
-        for kind in ["speech", "reorder", "noise"]:
-            path = os.path.join(folder, kind)
-            with open(path, "wb") as log:
-                subprocess.run([sys.executable, os.path.join(HERE, "make_log.py"), kind, str(packets)], stdout=log, check=True)
-            size = os.path.getsize(path)
-            best = {}
-            for _ in range(5):
-                for name, command in programs.items():
-                    run = once(command, path)
-                    if name not in best or run[1] + run[2] < best[name][1] + best[name][2]:
-                        best[name] = run
-            floor = best["cat"][1] + best["cat"][2]
-            for name, (wall, user, system, _) in best.items():
-                most = peak(programs[name], path)
-                print(f"{kind:8} {name:8} {size / wall / 1e6:8.0f} {packets / wall:11.0f} {user:7.3f} {system:7.3f} {most:8} {(user + system) / floor:8.2f}")
+        for name, kind, made_by, words in CASES:
+            if asked and name not in asked:
+                continue
+            path = os.path.join(folder, name)
+            make(kind, packets, made_by, path)
+            measure(name, path, words, packets)
+            os.remove(path)
 
 
 if __name__ == "__main__":
