@@ -15,4 +15,6 @@ pub use spec_sending::SendPlan;
 pub use stream::stream_file;
 
 #[cfg(test)]
+mod held_tests;
+#[cfg(test)]
 mod tests;
