@@ -339,7 +339,10 @@ fn an_offer_has_at_most_128_types(rt: HostRuntime) -> Result<(), Fail> {
 // 65,536 octets.
 fn filled(rt: &impl Alloc<A = Global>, front: &[u8], more: &[u8]) -> Result<Vec<u8>, Fail> {
     let mut text = Vec::from_slice(rt.alloc(), front)?;
-    let times = match 65_536usize.saturating_sub(front.len()).checked_div(more.len()) {
+    let times = match 65_536usize
+        .saturating_sub(front.len())
+        .checked_div(more.len())
+    {
         Some(times) => times,
         None => 0,
     };
