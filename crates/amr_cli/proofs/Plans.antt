@@ -6,7 +6,7 @@ use Rattle.amr_cli.specs.declared.job.Job.TheVariants.{RecordLog}
 use Rattle.amr_frame.specs.First.{first, when}
 use Rattle.amr_frame.specs.Profiles.{group_bound, profile_fault}
 use Rattle.amr_frame.specs.declared.profile.ProfileFault.{ProfileFault}
-use Rattle.amr_gateway.specs.declared.job.RecordJob.{RecordJob}
+use Rattle.record_hearing.specs.declared.job.RecordJob.{RecordJob}
 use Rattle.amr_playout.specs.Plans.{most_together, plan_fault}
 use Rattle.amr_playout.specs.declared.plan.PlanFault.{PlanFault}
 use Rattle.amr_playout.specs.declared.plan.PlanFault.TheVariants as fault

@@ -1,10 +1,11 @@
 -- The job of the words, and what it means: ours.
 use Rattle.std.specs.Prelude.{◌≡◌, ℕ, List, Option, Some}
 use Rattle.amr_cli.specs.declared.job.Job.{Job}
-use Rattle.amr_cli.specs.declared.job.Job.TheVariants.{AnswerOffer, RecordLog, StreamFile}
-use Rattle.amr_gateway.specs.Jobs.{IsServed as IsRecordJob, recording_of}
+use Rattle.amr_cli.specs.declared.job.Job.TheVariants.{AnswerOffer, ListLog, RecordLog, StreamFile}
+use Rattle.record_hearing.specs.Jobs.{IsServed as IsRecordJob, recording_of}
 use Rattle.answer_engine.specs.Jobs.{IsServed as IsAnswerJob, answering_of}
 use Rattle.command_words.specs.Built.{built, commands}
+use Rattle.list_engine.specs.Jobs.{IsServed as IsListJob, listing_of}
 use Rattle.spec_jobs.specs.Jobs.{job_by, meaning_of}
 use Rattle.spec_jobs.specs.Jobs as asked
 use Rattle.spec_run.specs.Meanings.{Meaning}
@@ -19,6 +20,7 @@ abbrev pub job_in : Job → asked.Job
 job_in (RecordLog job) = asked.RecordLog (recording_of job) job.limit
 job_in (StreamFile job) = asked.StreamFile job.plan job.limit
 job_in (AnswerOffer job) = asked.AnswerOffer (answering_of job) job.limit
+job_in (ListLog job) = asked.ListLog (listing_of job) job.limit
 
 -- what a job of the program means
 abbrev pub meaning_in : Job → Meaning
@@ -29,6 +31,7 @@ abbrev pub IsServed : Job → Type 0
 IsServed (RecordLog job) = IsRecordJob job
 IsServed (StreamFile job) = IsStreamJob job
 IsServed (AnswerOffer job) = IsAnswerJob job
+IsServed (ListLog job) = IsListJob job
 
 -- this holds of what the job of the words means, if they give one
 abbrev pub Asked : List (List ℕ) → (Meaning → Type 0) → Type 0

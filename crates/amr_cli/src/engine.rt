@@ -5,7 +5,7 @@ ghost use Rattle.amr_cli.specs.Runs.{SameSink};
 ghost use Rattle.spec_run.specs.Meanings.{Works, work_of};
 
 use crate::job::Job;
-use amr_gateway::{answer_offer, record_log, stream_file};
+use amr_gateway::{answer_offer, list_log, record_log, stream_file};
 use amr_io::{Sink, Source};
 use run_report::{CountLines, RunEnd, RunReport};
 use std::alloc::Global;
@@ -29,6 +29,7 @@ pub fn run_engine<I: Source, O: Sink>(
         Job::RecordLog(job) => record_log(alloc, job, input, output),
         Job::StreamFile(job) => stream_file(alloc, job, input, output),
         Job::AnswerOffer(job) => answer_offer(alloc, job, input, output),
+        Job::ListLog(job) => list_log(alloc, job, input, output),
     }
 }
 
@@ -40,5 +41,6 @@ pub fn noted_lines(job: &Job) -> CountLines
         Job::RecordLog(_) => CountLines::Recording,
         Job::StreamFile(_) => CountLines::Sending,
         Job::AnswerOffer(_) => CountLines::Answering,
+        Job::ListLog(_) => CountLines::None,
     }
 }

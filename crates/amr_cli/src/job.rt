@@ -1,15 +1,16 @@
 ghost use Rattle.std.specs.Prelude.{◌≡◌, IfSome, Some, option_map};
 ghost use Rattle.amr_cli.specs.Jobs.{IsServed, job_in, job_of};
-ghost use Rattle.command_words.specs.Asked.{AreSendable, AreWanted, AreWithin};
-ghost use Rattle.command_words.specs.Asked.{answering_of, recording_of, sending_of};
-ghost use Rattle.spec_jobs.specs.Jobs.{AnswerOffer as Answered, RecordLog as Recorded};
+ghost use Rattle.command_words.specs.Asked.{AreListed, AreSendable, AreWanted, AreWithin};
+ghost use Rattle.command_words.specs.Asked.{answering_of, listing_of, recording_of, sending_of};
+ghost use Rattle.spec_jobs.specs.Jobs.{AnswerOffer as Answered, ListLog as Listed};
+ghost use Rattle.spec_jobs.specs.Jobs.{RecordLog as Recorded};
 ghost use Rattle.spec_jobs.specs.Jobs.{StreamFile as Sent, if_valid};
 ghost use Rattle.spec_words.specs.Words.{texts};
 
 use amr_frame::Profile;
-use amr_gateway::{AnswerJob, RecordJob, StreamJob, Wanted};
+use amr_gateway::{AnswerJob, ListJob, RecordJob, StreamJob, Wanted};
 use amr_playout::Plan;
-use command_words::{AnswerWords, Command, RecordWords, StreamWords, read_command};
+use command_words::{AnswerWords, Command, ListWords, RecordWords, StreamWords, read_command};
 use spec_sending::SendPlan;
 
 /// What the words ask for.
@@ -21,6 +22,8 @@ pub enum Job {
     StreamFile(StreamJob),
     /// Answering an offer.
     AnswerOffer(AnswerJob),
+    /// Listing a packet log.
+    ListLog(ListJob),
 }
 
 /// The job of the words; `None` exactly where they give none.
@@ -33,6 +36,7 @@ pub fn read_words(words: &[String]) -> Option<Job>
         Some(Command::Record(values)) => record_job(&values),
         Some(Command::Stream(values)) => stream_job(&values),
         Some(Command::Answer(values)) => Some(answer_job(&values)),
+        Some(Command::List(values)) => Some(list_job(&values)),
     }
 }
 
@@ -112,6 +116,32 @@ fn answer_job(values: &AnswerWords) -> Job
             interleaving: values.interleaving,
         },
         port: values.port,
+        limit: values.limit,
+    })
+}
+
+/// Listing as these values ask; each job of them is valid.
+fn list_job(values: &ListWords) -> Job
+    requires within { AreListed values.now }
+
+    ensures job { Some (job_in result)
+        ≡ if_valid (Listed (listing_of values.now) values.now.limit) }
+    ensures served { IsServed result }
+{
+    let format = values
+        .fmtp
+        .profile(values.codec, values.channels, values.max_blocks);
+    Job::ListLog(ListJob {
+        profile: Profile {
+            strict: values.strict,
+            ..format
+        },
+        modes: values.modes,
+        neighbor: values.fmtp.neighbor,
+        period: values.fmtp.period,
+        start: values.start,
+        pt: values.pt,
+        show_bits: values.show_bits,
         limit: values.limit,
     })
 }

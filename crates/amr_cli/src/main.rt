@@ -1,5 +1,5 @@
 //! Records packet logs of AMR and AMR-WB speech as storage files, sends such files as packet logs,
-//! and answers offers of such speech.
+//! answers offers of such speech, and lists logs.
 #![tactic(auto)]
 
 #[cfg(test)]
@@ -11,6 +11,8 @@ mod fault_tests;
 mod format_tests;
 mod host;
 mod job;
+#[cfg(test)]
+mod list_tests;
 mod run;
 mod status;
 #[cfg(test)]

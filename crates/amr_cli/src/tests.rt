@@ -362,7 +362,7 @@ fn other_words_are_a_usage_fault(rt: HostRuntime) -> Result<(), Fail> {
         "record --codec",
         "record --codec amr",
         "Record --codec AMR",
-        "list --codec AMR",
+        "list --codec AMR --window 3",
         "record --codec=AMR",
         "record --codec AMR --codec AMR",
         "record --codec AMR --blocks 2",

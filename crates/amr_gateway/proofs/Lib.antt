@@ -1,11 +1,3 @@
-pub mod Bounds
-pub mod Carried
-pub mod HeardRecords
-pub mod Offered
-pub mod Passing
 pub mod Plans
-pub mod Records
-pub mod Results
 pub mod Returned
-pub mod Tallying
 pub mod Texts

@@ -3,10 +3,11 @@ use Rattle.std.proofs.Common.{ℕ, ◌≤◌, List, refl, ◌∙◌, subst, arit
 use Rattle.std.specs.Io.KnownBytes.{Appends}
 use Rattle.amr_frame.specs.Frames.{Frame}
 use Rattle.amr_frame.specs.Profiles.{group_bound}
-use Rattle.amr_gateway.proofs.Plans.{format_valid}
-use Rattle.amr_gateway.specs.Jobs.{IsServed, recording_meaning, recording_of}
+use Rattle.record_hearing.proofs.Plans.{format_valid}
+use Rattle.amr_gateway.specs.Jobs.{recording_meaning}
+use Rattle.record_hearing.specs.Jobs.{IsServed, recording_of}
 use Rattle.amr_gateway.specs.Returning.{PutsFile, ReturnsWhatIsSent, WorkedOff}
-use Rattle.amr_gateway.specs.declared.job.RecordJob.{RecordJob}
+use Rattle.record_hearing.specs.declared.job.RecordJob.{RecordJob}
 use Rattle.amr_playout.proofs.Plans.{facts}
 use Rattle.amr_playout.specs.Plans.{most_together}
 use Rattle.return_laws.proofs.Recorded.{left_recorded, sent_recorded}

@@ -1,17 +1,18 @@
 -- What went out, as octets.
-use Rattle.std.proofs.Common.{◌≡◌, ℕ, List, [], ◌++◌, ap, ◌∙◌, sym, append_assoc, Option}
+use Rattle.std.proofs.Common.{◌≡◌, ℕ, List, ◌++◌, ap, ◌∙◌, sym, subst, append_assoc, Option, Result}
 use Rattle.std.specs.Prelude.{flat_map}
 use Rattle.std.proofs.lemmas.Grind.{flat_map-append}
-use Rattle.std.proofs.KnownBytes.{Appends-nil}
-use Rattle.std.proofs.lemmas.List.{append-nil}
 use Rattle.amr_frame.specs.Frames.{Frame}
-use Rattle.amr_gateway.specs.Hearing.{Gained, GainedPart}
-use Rattle.amr_gateway.specs.declared.job.RecordJob.{RecordJob}
+use Rattle.amr_io.specs.Fault.{HasCause}
+use Rattle.amr_io.specs.declared.sink.Sink as sink
+use Rattle.amr_gateway.specs.Wrote.{Gained, GainedPart}
+use Rattle.record_hearing.specs.declared.job.RecordJob.{RecordJob}
 use Rattle.amr_playout.specs.Gains.{Gains, GainsPart}
 use Rattle.amr_store.proofs.Got.{wrote_blocks, wrote_front}
-use Rattle.amr_store.specs.Written.{WroteBlock, WrotePart}
+use Rattle.amr_store.specs.Written.{SameSink, WroteBlock, WrotePart}
 use Rattle.amr_store.specs.declared.writer.StoreWriter.{StoreWriter}
-use Rattle.log_engine.specs.Puts.{Puts, PutsPart}
+use Rattle.log_engine.specs.Puts.{CallStep, Puts, PutsPart}
+use Rattle.spec_run.specs.LogRuns.{RecordsJob}
 use Rattle.spec_store.specs.StorageFile.{block_text, header, storage_file}
 
 -- the octets of more blocks
@@ -42,14 +43,6 @@ gained_part got beside same r t v w less more g =
       more_by = g.more_by;
     }
 
--- nothing was written
-pub gained_none : (got : Option (List ℕ)) (less more : List (List Frame)) → more ≡ less → Gained got got less more
-gained_none got less more e = record {
-  blocks = [];
-  octets = Appends-nil got;
-  more_by = e ∙ sym (append-nil less);
-}
-
 -- as octets of the file
 abbrev file_text : RecordJob → List (List Frame) → List ℕ
 file_text job blocks = storage_file job.plan.profile.codec job.plan.profile.channels blocks
@@ -75,3 +68,33 @@ module _ (job : RecordJob) (got got' : Option (List ℕ)) where
               ∙ sym (append_assoc before g.front g.rest),
         );
       }
+
+-- what a writer over a sink put is in the sink that was lent to it
+module _ {O : Type 0} (k : sink.Ghosts O) (reflexive : (s : O) → k.same s s)
+    (transitive : (a b c : O) → k.same a b → k.same b c → k.same a c) (job : RecordJob) (a o : O) (v w : StoreWriter O)
+    (before : v.sink.now ≡ a) (after : o ≡ w.sink.now) where
+  lent : (P : Option (List ℕ) → Option (List ℕ) → Type 0) → P (k.got v.sink.now) (k.got w.sink.now) → P (k.got a) (k.got o)
+  lent P h = subst (λ x. P (k.got a) (k.got x)) (sym after) (subst (λ x. P (k.got x) (k.got w.sink.now)) before h)
+
+  pub puts_all : (less more : List (List Frame)) → Gains (WroteBlock k.got k.beside k.same) v w less more
+      → Puts (k.got a) (k.got o) (file_text job less) (file_text job more)
+  puts_all less more g = lent (λ x y. Puts x y (file_text job less) (file_text job more))
+      (puts_by job _ _ less more (gained k.got k.beside k.same reflexive transitive v w less more g))
+
+  pub puts_some : (less more : List (List Frame)) → GainsPart (WroteBlock k.got k.beside k.same) (WrotePart k.got k.beside k.same) v w less more
+      → PutsPart (k.got a) (k.got o) (file_text job less) (file_text job more)
+  puts_some less more g = lent (λ x y. PutsPart x y (file_text job less) (file_text job more))
+      (puts_part_by job _ _ less more (gained_part k.got k.beside k.same reflexive transitive v w less more g))
+
+  -- a step of the writer is one of the sink
+  pub step_at : {A E : Type 0} (job' : RecordsJob) (jobs : RecordsJob) (r : Result A E) → job' ≡ jobs
+      → HasCause (k.faults v.sink.now) (k.faults w.sink.now) r → SameSink k.beside k.same v w → CallStep k jobs job' a o r
+  step_at job' jobs r kept cause s = record {
+    kept = kept;
+    step = record {
+      cause = subst (λ x. HasCause (k.faults a) (k.faults x) r) (sym after)
+          (subst (λ x. HasCause (k.faults x) (k.faults w.sink.now) r) before cause);
+      beside = ap k.beside after ∙ s.beside ∙ ap k.beside before;
+      same = subst (k.same a) (sym after) (subst (λ t. k.same t w.sink.now) before s.object);
+    };
+  }

@@ -1,5 +1,3 @@
-pub mod Going
-pub mod Hearing
 pub mod Jobs
 pub mod Returning
-pub mod Tallies
+pub mod Wrote

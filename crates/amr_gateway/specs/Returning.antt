@@ -2,8 +2,8 @@
 use Rattle.std.specs.Prelude.{◌≡◌, ◌≤◌, ℕ, Bool, List, length, Some}
 use Rattle.std.specs.Io.KnownBytes.{Appends}
 use Rattle.amr_frame.specs.Frames.{Frame}
-use Rattle.amr_gateway.specs.Jobs.{recording_of}
-use Rattle.amr_gateway.specs.declared.job.RecordJob.{RecordJob}
+use Rattle.record_hearing.specs.Jobs.{recording_of}
+use Rattle.record_hearing.specs.declared.job.RecordJob.{RecordJob}
 use Rattle.return_laws.specs.Carrying.{CarryAll}
 use Rattle.return_laws.specs.Recordings.{Takes, file_of, left_log}
 use Rattle.return_laws.specs.Sessions.{AreSent}

@@ -1,15 +1,16 @@
 // Recording a packet log as a storage file.
 ghost use Rattle.std.specs.Prelude.{◌≡◌};
-ghost use Rattle.amr_gateway.specs.Jobs.{IsServed, recording_meaning};
+ghost use Rattle.amr_gateway.specs.Jobs.{recording_meaning};
 ghost use Rattle.amr_gateway.specs.Returning.{ReturnsWhatIsSent};
+ghost use Rattle.record_hearing.specs.Jobs.{IsServed};
 ghost use Rattle.run_report.specs.Lines.{no_counts};
 ghost use Rattle.spec_run.specs.Meanings.{Works, work_of};
 
-use crate::job::RecordJob;
 use crate::recorder::Recorder;
 use amr_io::{Sink, Source};
 use amr_playout::Receiver;
 use log_engine::{Gather, GatherSink, run_records};
+use record_hearing::{Listener, RecordJob};
 use rtp_packet::LogReader;
 use run_report::{Counts, RunEnd, RunReport};
 use std::alloc::Global;
@@ -52,12 +53,14 @@ pub fn record_log<I: Source, O: Sink>(
     let Ok(mut gather) = Gather::create(alloc, GATHERED) else {
         return no_memory();
     };
-    let mut recorder = Recorder::new(job, receiver);
+    let mut recorder = Recorder {
+        listener: Listener::new(job, receiver),
+    };
     let mut sink = GatherSink::new(output, &mut gather);
     let end = run_records(&mut recorder, &mut reader, input, &mut sink);
     RunReport {
         end,
-        counts: recorder.counts(),
+        counts: recorder.listener.counts(),
     }
 }
 

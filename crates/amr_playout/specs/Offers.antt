@@ -81,7 +81,8 @@ Answers b v v' x old new (Ok t) = Takes b v v' x old new t
 Answers b v v' x old new (Err (Refused why)) = Refuses v v' x old new why
 Answers b v v' x old new (Err BlockFault) = Fails b v v' x old new
 
--- the session ended: the rest of its release went out, and all its blocks are counted
+-- the session ended: the rest of its release went out, no more blocks than the window has, and all
+-- its blocks are counted
 pub record Finishes {S : Type 0} (b : blocks.Ghosts S) (v v' : View) (old new : S) (count : ℕ)
     : Type 0 where
   pub out : (h : List Packet) → StandsFor v h
@@ -95,6 +96,7 @@ pub record Finishes {S : Type 0} (b : blocks.Ghosts S) (v v' : View) (old new : 
   }
   pub all : (h : List Packet) → StandsFor v h
       → v'.counts.blocks ≡ block_count (rules_in v.plan) h
+  pub few : count ≤ v.plan.window
 
 -- the sink failed before the end: a prefix of the rest went out, and the counts are as before
 pub record FinishesPart {S : Type 0} (b : blocks.Ghosts S) (v v' : View) (old new : S)

@@ -1,5 +1,7 @@
 pub mod Answering
 pub mod Formats
+pub mod Listing
+pub mod Modes
 pub mod Numbers
 pub mod Pairs
 pub mod Plain

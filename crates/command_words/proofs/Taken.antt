@@ -1,5 +1,5 @@
 -- Options that are given have values that a row allows.
-use Rattle.std.proofs.Common.{◌≡◌, ℕ, Bool, true, false, ◌&&◌, ◌||◌, cond, List, [], ◌∷◌, Some, find, option_map, bytes_eq, refl, sym, ap, ◌∙◌}
+use Rattle.std.proofs.Common.{◌≡◌, ℕ, Bool, true, false, ◌&&◌, ◌||◌, cond, List, [], ◌∷◌, Option, None, Some, find, option_and_then, option_map, bytes_eq, refl, sym, ap, ◌∙◌}
 use Rattle.std.specs.List.{list_all}
 use Rattle.std.proofs.lemmas.Bool.{and_parts}
 use Rattle.std.proofs.lemmas.Slice.Eq.{bytes_eq-Decides}
@@ -7,10 +7,12 @@ use Rattle.amr_frame.specs.declared.codec.Codec.{Codec}
 use Rattle.command_words.proofs.Plain.{passed}
 use Rattle.command_words.specs.Built.{commands}
 use Rattle.command_words.specs.Options.{HasModes, is_allowed}
-use Rattle.spec_media.specs.Params.{Modes}
+use Rattle.spec_media.specs.Params.{Modes, Parameters}
 use Rattle.spec_media.specs.Params as media
-use Rattle.spec_words.specs.Given.{is_of}
-use Rattle.spec_words.specs.Table.{modes, only}
+use Rattle.spec_modes.specs.ModeSets.{has}
+use Rattle.spec_words.specs.Given.{is_of, is_value, modes_or_all, parameters_at, text_at}
+use Rattle.spec_words.specs.Numbers.{number_of}
+use Rattle.spec_words.specs.Table.{OneMode, fmtp, modes, only, start}
 use Rattle.spec_words.specs.Words.{Pair, value_of}
 
 -- what stands behind an option passes the test that all pairs pass
@@ -38,8 +40,23 @@ by_values true true e = refl
 by_values true false e = absurd cc
 by_values false a e = absurd cc
 
-pub modes_taken : (command : List ℕ) (c : Codec) (given ps : List Pair) → list_all (is_allowed command c given) ps ≡ true → HasModes c ps
-modes_taken command c given ps all = record {
+-- a mode that is one of the values is one that the media parameters leave
+left : (c : Codec) (given : List Pair) (p : Parameters) (n : ℕ) (text : List ℕ) → parameters_at c fmtp given ≡ Some p
+    → number_of text ≡ Some n → is_value c given OneMode text ≡ true → has (modes_or_all c p.modes) n ≡ true
+left c given p n text read number value = rw (read, number) at value
+
+-- and so is the one that is given
+start_left : (c : Codec) (given : List Pair) (p : Parameters) (n : ℕ) → parameters_at c fmtp given ≡ Some p
+    → (o : Option (List ℕ)) → text_at start given ≡ o → ((text : List ℕ) → o ≡ Some text → is_value c given OneMode text ≡ true)
+    → option_and_then number_of o ≡ Some n → has (modes_or_all c p.modes) n ≡ true
+start_left c given p n read None at values number = absurd cc
+start_left c given p n read (Some text) at values number = left c given p n text read number (values text refl)
+
+pub modes_taken : (command : List ℕ) (c : Codec) (given : List Pair) → list_all (is_allowed command c given) given ≡ true → HasModes c given
+modes_taken command c given all = record {
   allowed = λ text is. by_values (is_of command (only commands modes)) (media.is_allowed c Modes text)
-      (taken modes.option (is_allowed command c given) ps text all is);
+      (taken modes.option (is_allowed command c given) given text all is);
+  left = λ p n read number. start_left c given p n read (text_at start given) refl
+      (λ text is. by_values (is_of command (only commands start)) (is_value c given OneMode text)
+      (taken start.option (is_allowed command c given) given text all is)) number;
 }

@@ -1,24 +1,28 @@
 -- What the words of the command line ask for, as the code has it.
-use Rattle.std.specs.Prelude.{false, List, IfSome}
+use Rattle.std.specs.Prelude.{◌≡◌, true, false, List, [], IfSome, bytes_eq, codes, unwrap_or}
 use Rattle.amr_frame.specs.declared.codec.Codec.{Codec}
 use Rattle.amr_mode.specs.Members.{members}
 use Rattle.amr_mode.specs.declared.mode_set.ModeSet.{ModeSet}
 use Rattle.command_words.specs.declared.command.Command.{Command}
 use Rattle.command_words.specs.declared.command.AnswerWords.{AnswerWords}
 use Rattle.command_words.specs.declared.command.Command.TheVariants.{Answer, Record, Stream}
+use Rattle.command_words.specs.declared.command.Command.TheVariants.{List as Listed}
+use Rattle.command_words.specs.declared.command.ListWords.{ListWords}
 use Rattle.command_words.specs.declared.command.RecordWords.{RecordWords}
 use Rattle.command_words.specs.declared.command.StreamWords.{StreamWords}
 use Rattle.command_words.specs.Rows.{IsWithin}
-use Rattle.media_params.specs.Fmtp.{format_of, parameters}
+use Rattle.media_params.specs.Fmtp.{bits_of, format_of, parameters}
 use Rattle.media_params.specs.declared.fmtp.Fmtp.{Fmtp}
-use Rattle.spec_jobs.specs.Jobs.{AnswerOffer, Job, RecordLog, StreamFile}
+use Rattle.spec_jobs.specs.Jobs.{AnswerOffer, Job, ListLog, RecordLog, StreamFile}
 use Rattle.spec_jobs.specs.Plans.{most_blocks, window_of}
-use Rattle.spec_modes.specs.ModeSets.{IsModeSet}
+use Rattle.spec_listing.specs.Listing.{Listing}
+use Rattle.spec_media.specs.Params.{AreParameters}
+use Rattle.spec_modes.specs.ModeSets.{IsModeSet, greatest, has}
 use Rattle.spec_offer.specs.Answering.{Answering}
 use Rattle.spec_record.specs.Recording.{Recording}
 use Rattle.spec_sending.specs.declared.plan.SendPlan.{SendPlan}
 use Rattle.spec_session.specs.Session.{rules_of}
-use Rattle.spec_words.specs.Given.{is_on, number_at, number_or, number_or_default}
+use Rattle.spec_words.specs.Given.{is_on, number_at, number_or, number_or_default, text_at}
 use Rattle.spec_words.specs.Table as option
 use Rattle.spec_words.specs.Words.{Pair}
 
@@ -57,11 +61,27 @@ answering_of w = record {
   port = w.port;
 }
 
+-- what is listed by these values
+abbrev pub listing_of : ListWords → Listing
+listing_of w = record {
+  profile = record (format_of w.fmtp w.codec w.channels w.max_blocks) { strict = w.strict };
+  asked = w.pt;
+  desk = record {
+    codec = w.codec;
+    modes = members w.modes;
+    neighbor = w.fmtp.neighbor;
+    period = w.fmtp.period;
+    start = w.start;
+  };
+  bits = w.show_bits;
+}
+
 -- the job that a command stands for
 abbrev pub asked_in : Command → Job
 asked_in (Record w) = RecordLog (recording_of w) w.limit
 asked_in (Stream w) = StreamFile (sending_of w) w.limit
 asked_in (Answer w) = AnswerOffer (answering_of w) w.limit
+asked_in (Listed w) = ListLog (listing_of w) w.limit
 
 -- the values that options give `record` and `stream`, beside these media parameters
 abbrev pub record_words : Codec → List Pair → Fmtp → RecordWords
@@ -105,6 +125,21 @@ answer_words c given modes = record {
   limit = number_or_default option.offer_limit given;
 }
 
+-- those that options give `list`, beside these media parameters
+abbrev pub list_words : Codec → List Pair → Fmtp → ListWords
+list_words c given f = let modes : ModeSet = record { bits = bits_of c f.modes } in record {
+  codec = c;
+  channels = number_or_default option.channels given;
+  fmtp = f;
+  modes = modes;
+  start = number_or (greatest (members modes)) option.start given;
+  pt = number_at option.pt given;
+  max_blocks = number_or 64 option.max_blocks given;
+  strict = is_on option.strict given;
+  show_bits = bytes_eq (unwrap_or (text_at option.show given) []) (codes "bits");
+  limit = number_or_default option.limit given;
+}
+
 -- each value is in the range of its option
 abbrev pub AreWithin : RecordWords → Type 0
 AreWithin w =
@@ -125,7 +160,14 @@ AreWanted w =
     × IsWithin option.interleaving w.interleaving × IsWithin option.port w.port
     × IsWithin option.offer_limit w.limit
 
+abbrev pub AreListed : ListWords → Type 0
+AreListed w =
+    IsWithin option.channels w.channels × AreParameters w.codec (parameters w.fmtp)
+    × (has (members w.modes) w.start ≡ true) × IfSome w.pt (IsWithin option.pt)
+    × IsWithin option.max_blocks w.max_blocks × IsWithin option.limit w.limit
+
 abbrev pub HasValues : Command → Type 0
 HasValues (Record w) = AreWithin w
 HasValues (Stream w) = AreSendable w
 HasValues (Answer w) = AreWanted w
+HasValues (Listed w) = AreListed w

@@ -3,10 +3,11 @@ use Rattle.std.specs.Prelude.{◌≡◌, ℕ, Bool, true, List, None, Some}
 use Rattle.std.specs.List.{list_any}
 use Rattle.amr_frame.specs.declared.codec.Codec.{Codec}
 use Rattle.command_words.specs.Built.{built}
-use Rattle.spec_media.specs.Params.{Modes}
+use Rattle.spec_media.specs.Params.{Modes, Parameters}
 use Rattle.spec_media.specs.Params as media
-use Rattle.spec_words.specs.Given.{allows, text_at}
-use Rattle.spec_words.specs.Table.{modes, repeat, skip}
+use Rattle.spec_modes.specs.ModeSets.{has}
+use Rattle.spec_words.specs.Given.{allows, modes_or_all, number_at, parameters_at, text_at}
+use Rattle.spec_words.specs.Table.{fmtp, modes, repeat, skip, start}
 use Rattle.spec_words.specs.Words.{Pair}
 
 -- whether one of the rows that are built allows a pair
@@ -18,7 +19,10 @@ pub record ArePlain (given : List Pair) : Type 0 where
   pub repeat : text_at repeat given ≡ None
   pub skip : text_at skip given ≡ None
 
--- the list of modes that is given, where one is, has modes of the codec alone
+-- the list of modes that is given, where one is, has modes of the codec alone; and the mode to
+-- start at, where one is given, is one of those that the media parameters leave
 pub record HasModes (c : Codec) (given : List Pair) : Type 0 where
   pub allowed : (text : List ℕ) → text_at modes given ≡ Some text
       → media.is_allowed c Modes text ≡ true
+  pub left : (p : Parameters) (n : ℕ) → parameters_at c fmtp given ≡ Some p
+      → number_at start given ≡ Some n → has (modes_or_all c p.modes) n ≡ true

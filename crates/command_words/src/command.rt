@@ -1,7 +1,7 @@
-ghost use Rattle.std.specs.Prelude.{◌≡◌, ◌≤◌, IfSome, option_map};
+ghost use Rattle.std.specs.Prelude.{◌≡◌, ◌≤◌, IfSome, Some, option_map};
 ghost use Rattle.amr_mode.specs.Members.{members};
-ghost use Rattle.command_words.specs.Asked.{AreSendable, AreWanted, AreWithin, HasValues};
-ghost use Rattle.command_words.specs.Asked.{answer_words, asked_in};
+ghost use Rattle.command_words.specs.Asked.{AreListed, AreSendable, AreWanted, AreWithin};
+ghost use Rattle.command_words.specs.Asked.{HasValues, answer_words, asked_in, list_words};
 ghost use Rattle.command_words.specs.Asked.{record_words, stream_words};
 ghost use Rattle.command_words.specs.Built.{built, commands};
 ghost use Rattle.command_words.specs.Options.{ArePlain, HasModes};
@@ -9,13 +9,16 @@ ghost use Rattle.command_words.specs.Rows.{given_in};
 ghost use Rattle.media_params.specs.Fmtp.{AreShort, parameters};
 ghost use Rattle.spec_jobs.specs.Jobs.{asked_by, asked_of};
 ghost use Rattle.spec_jobs.specs.Plans.{group_of};
+ghost use Rattle.spec_media.specs.Params.{AreParameters};
 ghost use Rattle.spec_modes.specs.ModeSets.{IsModeSet};
+ghost use Rattle.spec_words.specs.Given.{parameters_at};
+ghost use Rattle.spec_words.specs.Table.{fmtp as fmtp_row};
 ghost use Rattle.spec_words.specs.Words.{texts};
 
-use crate::options::Options;
+use crate::options::{Options, modes_left};
 use crate::table::{
-    ANSWER, BLOCKS, CHANNELS, CMR, CRC, INTERLEAVING, LENGTH, LIMIT, MAX_BLOCKS, OFFER_LIMIT, PORT,
-    PT, REACH, RECORD, SEQ, SORTING, SSRC, STREAM, STRICT, TS, WINDOW,
+    ANSWER, BLOCKS, CHANNELS, CMR, CRC, INTERLEAVING, LENGTH, LIMIT, LIST, MAX_BLOCKS, OFFER_LIMIT,
+    PORT, PT, REACH, RECORD, SEQ, SORTING, SSRC, STREAM, STRICT, TS, WINDOW,
 };
 use amr_frame::Codec;
 use amr_mode::ModeSet;
@@ -91,6 +94,31 @@ pub struct AnswerWords {
     pub limit: u64,
 }
 
+/// What the words ask of `list`, each in the range of its option.
+#[derive(Clone, Copy, Debug, PartialEq, Eq)]
+pub struct ListWords {
+    pub codec: Codec,
+    /// The frames of one block, from 1 to 6.
+    pub channels: u8,
+    /// The media parameters of the payloads.
+    pub fmtp: Fmtp,
+    /// The modes of the mode desk: those of the media parameters, all of the codec where they name
+    /// none.
+    pub modes: ModeSet,
+    /// The mode that the desk starts at, one of these.
+    pub start: u8,
+    /// The one payload type whose payloads are read, from 0 to 127, or any.
+    pub pt: Option<u8>,
+    /// The most blocks in a payload, from 1 to 64.
+    pub max_blocks: u8,
+    /// Payloads that no sender by the standard sends are refused.
+    pub strict: bool,
+    /// The bits of the frames are listed too.
+    pub show_bits: bool,
+    /// The most octets that are read, from 1 to 1,099,511,627,776.
+    pub limit: u64,
+}
+
 /// A command with the values of its options.
 #[derive(Clone, Copy, Debug, PartialEq, Eq)]
 pub enum Command {
@@ -100,6 +128,8 @@ pub enum Command {
     Stream(StreamWords),
     /// Answers an offer.
     Answer(AnswerWords),
+    /// Lists the packets of a log.
+    List(ListWords),
 }
 
 /// Reads the words of the command line, the first of which is the command. There is no job where there is no word, the
@@ -127,6 +157,7 @@ fn asked(command: &str, options: &Options<'_>) -> Option<Command>
         RECORD => Some(Command::Record(record(options, fmtp))),
         STREAM => Some(Command::Stream(stream(options, fmtp))),
         ANSWER => Some(Command::Answer(answer(options, options.modes()))),
+        LIST => Some(Command::List(list(options, fmtp))),
         _ => None,
     }
 }
@@ -199,5 +230,31 @@ fn answer(options: &Options<'_>, modes: ModeSet) -> AnswerWords
         interleaving: options.number_or_default(&INTERLEAVING) as u16,
         port: options.number_or_default(&PORT) as u16,
         limit: options.number_or_default(&OFFER_LIMIT),
+    }
+}
+
+/// What these options ask of `list`, beside the media parameters that they give.
+fn list(options: &Options<'_>, fmtp: Fmtp) -> ListWords
+    requires read { parameters_at options.now.codec fmtp_row (given_in options.now)
+        ≡ Some (parameters fmtp) }
+    requires valid { AreParameters options.now.codec (parameters fmtp) }
+    requires modes { HasModes options.now.codec (given_in options.now) }
+
+    ensures values { result ≡ list_words options.now.codec (given_in options.now) fmtp }
+    ensures within { AreListed result }
+    ensures short { AreShort fmtp.modes }
+{
+    let modes = modes_left(options.codec, &fmtp);
+    ListWords {
+        codec: options.codec,
+        channels: options.number_or_default(&CHANNELS) as u8,
+        fmtp,
+        modes,
+        start: options.start(&modes),
+        pt: options.number(&PT).map(|pt| pt as u8),
+        max_blocks: options.number(&MAX_BLOCKS).unwrap_or(64) as u8,
+        strict: options.number_or_default(&STRICT) == 1,
+        show_bits: options.shows_bits(),
+        limit: options.number_or_default(&LIMIT),
     }
 }

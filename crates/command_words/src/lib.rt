@@ -7,7 +7,9 @@ mod table;
 mod values;
 mod words;
 
-pub use command::{AnswerWords, Command, RecordWords, StreamWords, read_command};
+pub use command::{AnswerWords, Command, ListWords, RecordWords, StreamWords, read_command};
 
+#[cfg(test)]
+mod refused_tests;
 #[cfg(test)]
 mod tests;

@@ -1,18 +1,21 @@
-ghost use Rattle.std.specs.Prelude.{◌≡◌, IfSome, option_map};
+ghost use Rattle.std.specs.Prelude.{◌≡◌, ◌<◌, [], IfSome, true};
+ghost use Rattle.std.specs.Prelude.{bytes_eq, codes, length, option_map, unwrap_or};
 ghost use Rattle.amr_mode.specs.Members.{members};
-ghost use Rattle.media_params.specs.Fmtp.{parameters};
+ghost use Rattle.media_params.specs.Fmtp.{bits_of, parameters};
+ghost use Rattle.spec_media.specs.Params.{AreParameters};
 ghost use Rattle.spec_media.specs.Reading.{modes_of};
-ghost use Rattle.spec_modes.specs.ModeSets.{IsModeSet};
-ghost use Rattle.spec_words.specs.Given.{are_allowed, codec_of, modes_or_all};
-ghost use Rattle.spec_words.specs.Given.{number_at, number_or_default, parameters_at, text_at};
-ghost use Rattle.spec_words.specs.Table.{fmtp, modes};
+ghost use Rattle.spec_modes.specs.ModeSets.{IsModeSet, greatest, has};
+ghost use Rattle.spec_words.specs.Given.{are_allowed, codec_of, is_value, modes_or_all};
+ghost use Rattle.spec_words.specs.Given.{number_at, number_or, number_or_default};
+ghost use Rattle.spec_words.specs.Given.{parameters_at, text_at};
+ghost use Rattle.spec_words.specs.Table.{OneMode, fmtp, modes, show, start};
 ghost use Rattle.spec_words.specs.Words.{texts, pairs};
 ghost use Rattle.command_words.specs.Built.{built};
 ghost use Rattle.command_words.specs.Options.{ArePlain, HasModes};
 ghost use Rattle.command_words.specs.Rows.{HasDefault, IsWithin, given_in, row_of};
 
-use crate::table::{CODEC, FMTP, MODES, Row, is_allowed};
-use crate::values::read_codec;
+use crate::table::{CODEC, FMTP, MODES, Row, SHOW, START, is_allowed};
+use crate::values::{BITS, read_codec, read_number};
 use crate::words::{all_differ, value_of};
 use amr_frame::Codec;
 use amr_mode::ModeSet;
@@ -61,8 +64,9 @@ impl<'a> Options<'a> {
 
     /// The media parameters that are given, those of the empty text where none are.
     pub fn fmtp(&self) -> Option<Fmtp>
-        ensures { option_map parameters result
+        ensures read { option_map parameters result
             ≡ parameters_at self.now.codec fmtp (given_in self.now) }
+        ensures valid { IfSome result (λ f. AreParameters self.now.codec (parameters f)) }
     {
         let text = value_of(self.words, FMTP.name).unwrap_or("");
         read_fmtp(self.codec, text.as_bytes()).ok()
@@ -84,6 +88,43 @@ impl<'a> Options<'a> {
         set
     }
 
+    /// Whether a text is the number of a mode that the media parameters leave.
+    pub fn leaves(&self, text: &str) -> bool
+        ensures { result ≡ is_value self.now.codec (given_in self.now) OneMode text.now }
+    {
+        let Some(fmtp) = self.fmtp() else {
+            return false;
+        };
+        let Some(mode) = read_number(text) else {
+            return false;
+        };
+        is_among(&modes_left(self.codec, &fmtp), mode)
+    }
+
+    /// The mode that a listing starts at: the one that is given, or the greatest of these.
+    pub fn start(&self, modes: &ModeSet) -> u8
+        requires some { 0 < length (members modes.now) }
+        requires left { IfSome (number_at start (given_in self.now))
+            (λ n. has (members modes.now) n ≡ true) }
+
+        ensures value { result
+            ≡ number_or (greatest (members modes.now)) start (given_in self.now) }
+        ensures among { has (members modes.now) result ≡ true }
+    {
+        match self.number(&START) {
+            Some(mode) => mode as u8,
+            None => modes.greatest(),
+        }
+    }
+
+    /// Whether a listing shows the bits of the frames.
+    pub fn shows_bits(&self) -> bool
+        ensures { result
+            ≡ bytes_eq (unwrap_or (text_at show (given_in self.now)) []) (codes "bits") }
+    {
+        value_of(self.words, SHOW.name).unwrap_or("") == BITS
+    }
+
     /// The number behind the option of a row, where the option is given.
     pub fn number(&self, row: &Row) -> Option<u64>
         ensures value { result ≡ number_at (row_of row.now) (given_in self.now) }
@@ -103,4 +144,22 @@ impl<'a> Options<'a> {
         };
         self.number(row).unwrap_or(default)
     }
+}
+
+/// The modes that media parameters leave: all of the codec where they name none.
+pub fn modes_left(codec: Codec, fmtp: &Fmtp) -> ModeSet
+    ensures bits { result ≡ record { bits = bits_of codec fmtp.now.modes } }
+    ensures modes { members result ≡ modes_or_all codec (parameters fmtp.now).modes }
+{
+    match fmtp.modes {
+        Some(set) => set,
+        None => ModeSet::all(codec),
+    }
+}
+
+/// Whether a number is one of these modes.
+fn is_among(modes: &ModeSet, mode: u64) -> bool
+    ensures { result ≡ has (members modes.now) mode }
+{
+    mode < 16 && modes.has(mode as u8)
 }

@@ -27,12 +27,15 @@ pub const STREAM: &str = "stream";
 /// The command that answers an offer.
 pub const ANSWER: &str = "answer";
 
+/// The command that lists the packets of a log.
+pub const LIST: &str = "list";
+
 /// The codec, which has to be given.
 pub const CODEC: Row = Row {
     name: "--codec",
     values: Values::Codecs,
     default: None,
-    commands: &[ANSWER, RECORD, STREAM],
+    commands: &[ANSWER, RECORD, STREAM, LIST],
 };
 
 /// The frames of one block.
@@ -51,7 +54,7 @@ pub const FMTP: Row = Row {
     name: "--fmtp",
     values: Values::Parameters,
     default: None,
-    commands: &[RECORD, STREAM],
+    commands: &[RECORD, STREAM, LIST],
 };
 
 /// The one payload type that is read, or that is sent. Its default depends on the command.
@@ -61,7 +64,8 @@ pub const PT: Row = Row {
         least: 0,
         greatest: 127,
     },
-    ..FMTP
+    default: None,
+    commands: &[RECORD, LIST, STREAM],
 };
 
 /// The most octets of a log or a file that are read.
@@ -75,17 +79,6 @@ pub const LIMIT: Row = Row {
     ..FMTP
 };
 
-/// The most blocks in a payload. Its default depends on the window.
-pub const MAX_BLOCKS: Row = Row {
-    name: "--max-blocks",
-    values: Values::Numbers {
-        least: 1,
-        greatest: 64,
-    },
-    default: None,
-    commands: &[RECORD],
-};
-
 /// The window, in blocks. Its default depends on the groups.
 pub const WINDOW: Row = Row {
     name: "--window",
@@ -93,7 +86,8 @@ pub const WINDOW: Row = Row {
         least: 1,
         greatest: 4096,
     },
-    ..MAX_BLOCKS
+    default: None,
+    commands: &[RECORD],
 };
 
 /// How many blocks ahead a packet may lie.
@@ -104,7 +98,18 @@ pub const REACH: Row = Row {
         greatest: 45_000,
     },
     default: Some(45_000),
-    ..MAX_BLOCKS
+    ..WINDOW
+};
+
+/// The most blocks in a payload. Its default depends on the command, and on the window.
+pub const MAX_BLOCKS: Row = Row {
+    name: "--max-blocks",
+    values: Values::Numbers {
+        least: 1,
+        greatest: 64,
+    },
+    default: None,
+    commands: &[RECORD, LIST],
 };
 
 /// Whether payloads that no sender by the standard sends are refused: 1 where they are.
@@ -116,6 +121,22 @@ pub const STRICT: Row = Row {
     },
     default: Some(0),
     ..MAX_BLOCKS
+};
+
+/// What is listed of a payload: its frames, or their bits too. The frames where it is absent.
+pub const SHOW: Row = Row {
+    name: "--show",
+    values: Values::Shows,
+    default: None,
+    commands: &[LIST],
+};
+
+/// The mode that the mode desk of a listing starts at. The greatest of those that the media
+/// parameters leave where it is absent.
+pub const START: Row = Row {
+    name: "--start",
+    values: Values::OneMode,
+    ..SHOW
 };
 
 /// The source of the packets.
@@ -236,7 +257,7 @@ pub const PORT: Row = Row {
 };
 
 /// All rows.
-const TABLE: [Row; 21] = [
+const TABLE: [Row; 23] = [
     CODEC,
     CHANNELS,
     FMTP,
@@ -252,6 +273,8 @@ const TABLE: [Row; 21] = [
     SSRC,
     SEQ,
     TS,
+    SHOW,
+    START,
     OFFER_LIMIT,
     MODES,
     CRC,

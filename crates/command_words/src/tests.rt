@@ -1,4 +1,4 @@
-use crate::{AnswerWords, Command, RecordWords, StreamWords, read_command};
+use crate::{AnswerWords, Command, ListWords, RecordWords, StreamWords, read_command};
 use amr_frame::Codec;
 use amr_mode::ModeSet;
 use media_params::Fmtp;
@@ -75,8 +75,21 @@ const ANSWERING: AnswerWords = AnswerWords {
     limit: 65_536,
 };
 
+const LISTING: ListWords = ListWords {
+    codec: Codec::Amr,
+    channels: 1,
+    fmtp: PACKED,
+    modes: ModeSet { bits: 0xff },
+    start: 7,
+    pt: None,
+    max_blocks: 64,
+    strict: false,
+    show_bits: false,
+    limit: 1_099_511_627_776,
+};
+
 // What the words of a line ask, which stand between single spaces.
-fn read(alloc: Global, line: &str) -> Result<Option<Command>, AllocError> {
+pub fn read(alloc: Global, line: &str) -> Result<Option<Command>, AllocError> {
     let mut words = Vec::new(alloc);
     for word in line.split(' ') {
         words.push(String::from_str(alloc, word)?)?;
@@ -337,97 +350,65 @@ fn an_offer_is_answered_as_the_options_say(rt: HostRuntime) -> Result<(), Fail> 
 }
 
 #[test]
-fn other_words_give_no_job(rt: HostRuntime) -> Result<(), Fail> {
-    let lines: [&str; 85] = [
-        "",
-        "play --codec AMR",
-        "Record --codec AMR",
-        "--codec AMR",
-        "--codec AMR record",
-        "record",
-        "record --pt 97",
-        "record --codec",
-        "record --codec AMR --pt",
-        "record --codec --pt 97",
-        "record --codec=AMR",
-        "record --codec=AMR --pt 97",
-        "record -- --codec AMR",
-        "record --codec amr",
-        "record --codec AMR-NB",
-        "record --codec AMR --codec AMR",
-        "record --codec AMR --pt 97 --reach 1 --pt 97",
-        "record --codec AMR --blocks 2",
-        "record --codec AMR --channels 0",
-        "record --codec AMR --channels 7",
-        "record --codec AMR --pt 128",
-        "record --codec AMR --pt 00000000000007",
-        "record --codec AMR --pt ",
-        "record --codec AMR --pt +7",
-        "record --codec AMR --pt -7",
-        "record --codec AMR --pt 7a",
-        "record --codec AMR --pt 0x7",
-        "record --codec AMR --limit 0",
-        "record --codec AMR --limit 1099511627777",
-        "record --codec AMR --limit 99999999999999999999",
-        "record --codec AMR --window 0",
-        "record --codec AMR --window 4097",
-        "record --codec AMR --reach 0",
-        "record --codec AMR --reach 45001",
-        "record --codec AMR --max-blocks 0",
-        "record --codec AMR --max-blocks 65",
-        "record --codec AMR  --pt 97",
-        "record --codec AMR --ts 0",
-        "streams --codec AMR",
-        "stream",
-        "stream --ts 0",
-        "stream --codec AMR --window 256",
-        "stream --codec AMR --reach 1",
-        "stream --codec AMR --max-blocks 64",
-        "stream --codec AMR --pt 128",
-        "stream --codec AMR --limit 0",
-        "stream --codec AMR --blocks 0",
-        "stream --codec AMR --blocks 65",
-        "stream --codec AMR --cmr 16",
-        "stream --codec AMR --ssrc 4294967296",
-        "stream --codec AMR --seq 65536",
-        "stream --codec AMR --seq 1 --seq 1",
-        "stream --codec AMR --length 0",
-        "stream --codec AMR --length 17",
-        "record --codec AMR --length 1",
-        "stream --codec AMR --repeat 0",
-        "stream --codec AMR --skip 1",
-        "list --codec AMR",
-        "record --codec AMR --strict 2",
-        "stream --codec AMR --strict 0",
-        "record --codec AMR --fmtp crc=2",
-        "record --codec AMR --fmtp octet-align=0;crc=1",
-        "record --fmtp mode-set=8 --codec AMR",
-        "stream --codec AMR --fmtp crc=1;crc=1",
-        "stream --codec AMR --fmtp =1",
-        "answer",
-        "answer --modes 0",
-        "answers --codec AMR",
-        "answer --codec AMR --modes 8",
-        "answer --modes 9 --codec AMR-WB",
-        "answer --codec AMR --modes ",
-        "answer --codec AMR --modes 0,,2",
-        "answer --codec AMR --modes 000000",
-        "answer --codec AMR --modes all",
-        "answer --codec AMR --crc 2",
-        "answer --codec AMR --sorting 2",
-        "answer --codec AMR --interleaving 65536",
-        "answer --codec AMR --port 0",
-        "answer --codec AMR --port 65536",
-        "answer --codec AMR --limit 0",
-        "answer --codec AMR --limit 65537",
-        "answer --codec AMR --fmtp crc=1",
-        "answer --codec AMR --pt 97",
-        "answer --codec AMR --crc 1 --crc 1",
-        "record --codec AMR --modes 0",
+fn a_log_is_listed_as_the_options_say(rt: HostRuntime) -> Result<(), Fail> {
+    let wide = ListWords {
+        codec: Codec::AmrWb,
+        modes: ModeSet { bits: 0x1ff },
+        start: 8,
+        ..LISTING
+    };
+    let all = ListWords {
+        codec: Codec::AmrWb,
+        channels: 6,
+        fmtp: Fmtp {
+            octet_aligned: true,
+            modes: Some(ModeSet { bits: 0x0a5 }),
+            period: 2,
+            neighbor: true,
+            ..PACKED
+        },
+        modes: ModeSet { bits: 0x0a5 },
+        start: 2,
+        pt: Some(127),
+        max_blocks: 1,
+        strict: true,
+        show_bits: true,
+        limit: 1,
+    };
+    let rows = [
+        ("list --codec AMR", LISTING),
+        ("list --codec AMR-WB", wide),
+        // The frames are shown by default, and the desk starts at the greatest mode that is left.
+        ("list --codec AMR --show frames --start 7", LISTING),
+        (
+            "list --fmtp mode-set=2,0,5 --codec AMR",
+            ListWords {
+                fmtp: Fmtp {
+                    modes: Some(ModeSet { bits: 0x25 }),
+                    ..PACKED
+                },
+                modes: ModeSet { bits: 0x25 },
+                start: 5,
+                ..LISTING
+            },
+        ),
+        (
+            "list --start 0000000000000 --codec AMR",
+            ListWords {
+                start: 0,
+                ..LISTING
+            },
+        ),
+        // The window of a receiver is none of its options.
+        ("list --codec AMR --max-blocks 64 --strict 00", LISTING),
+        (
+            "list --start 02 --limit 1 --show bits --strict 1 --max-blocks 1 --pt 127 --channels 6 --fmtp octet-align=1;mode-set=0,2,5,7;mode-change-period=2;mode-change-neighbor=1 --codec AMR-WB",
+            all,
+        ),
     ];
-    for line in lines {
-        assert_eq!(rt; read(rt.alloc(), line)?, None, "of {line}");
+    for (line, job) in rows {
+        let asked = read(rt.alloc(), line)?;
+        assert_eq!(rt; asked, Some(Command::List(job)), "of {line}");
     }
-    assert_eq!(rt; read_command(&[]), None);
     Ok(())
 }

@@ -9,6 +9,9 @@ use crate::options::Options;
 use amr_frame::Codec;
 use media_params::{read_fmtp, read_modes};
 
+/// What a listing shows where the bits of the frames are shown.
+pub const BITS: &str = "bits";
+
 /// The values that an option may have.
 #[derive(Clone, Copy)]
 pub enum Values {
@@ -18,8 +21,13 @@ pub enum Values {
     Numbers { least: u64, greatest: u64 },
     /// The texts of media parameters of the codec that is given (RFC 4867, 8.1 to 8.3).
     Parameters,
+    /// The modes that the media parameters that are given leave, all of that codec where they name
+    /// none (RFC 4867, 8.1 and 8.2), in decimal.
+    OneMode,
     /// The lists of modes of that codec, with commas between them (RFC 4867, 8.1 and 8.2).
     ModeLists,
+    /// What a listing shows.
+    Shows,
 }
 
 impl Values {
@@ -32,7 +40,9 @@ impl Values {
             Values::Codecs => read_codec(text).is_some(),
             Values::Numbers { .. } => self.number(text).is_some(),
             Values::Parameters => read_fmtp(options.codec, text.as_bytes()).is_ok(),
+            Values::OneMode => options.leaves(text),
             Values::ModeLists => read_modes(options.codec, text.as_bytes()).is_some(),
+            Values::Shows => text == "frames" || text == BITS,
         }
     }
 
@@ -43,7 +53,8 @@ impl Values {
     {
         match *self {
             Values::Numbers { least, greatest } => number_between(text, least, greatest),
-            Values::Codecs | Values::Parameters | Values::ModeLists => None,
+            Values::OneMode => read_number(text),
+            Values::Codecs | Values::Parameters | Values::ModeLists | Values::Shows => None,
         }
     }
 }
@@ -72,7 +83,7 @@ fn number_between(text: &str, least: u64, greatest: u64) -> Option<u64>
 }
 
 /// The number that a text of 1 to 13 decimal digits stands for.
-fn read_number(text: &str) -> Option<u64>
+pub fn read_number(text: &str) -> Option<u64>
     ensures { result ≡ number_of text.now }
 {
     if !is_number(text) {

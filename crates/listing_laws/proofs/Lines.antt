@@ -8,7 +8,7 @@ use Rattle.spec_listing.specs.Listing.{Listing, listed_record, listing, mode_in,
 use Rattle.spec_run.specs.Meanings.{IsPrefix}
 
 -- numbers in a row, and those behind them
-split_range : (a n m : ℕ) → range_with_len a (n + m) ≡ range_with_len a n ++ range_with_len (a + n) m
+pub split_range : (a n m : ℕ) → range_with_len a (n + m) ≡ range_with_len a n ++ range_with_len (a + n) m
 split_range a zero m =
     let none : 0 + m ≡ m = omega arith in
     let same : a + 0 ≡ a = omega arith in
@@ -19,7 +19,7 @@ split_range a (suc n) m =
     ap (range_with_len a) more ∙ ap (λ l. a ∷ l) (split_range (a + 1) n m ∙ (λ i. range_with_len (a + 1) n ++ range_with_len (on i) m))
 
 -- two texts of each number in a row that agree on all of them
-same_on : (f g : ℕ → List ℕ) (a n : ℕ) → ((k : ℕ) → a ≤ k → k < a + n → f k ≡ g k)
+pub same_on : (f g : ℕ → List ℕ) (a n : ℕ) → ((k : ℕ) → a ≤ k → k < a + n → f k ≡ g k)
     → flat_map f (range_with_len a n) ≡ flat_map g (range_with_len a n)
 same_on f g a zero same = refl
 same_on f g a (suc n) same =
@@ -28,7 +28,7 @@ same_on f g a (suc n) same =
     λ i. here i ++ rest i
 
 -- the line of a record, with more records behind it
-same_line : (l : Listing) (records more : List (List ℕ)) (n : ℕ) → n < length records
+pub same_line : (l : Listing) (records more : List (List ℕ)) (n : ℕ) → n < length records
     → listed_record l (records ++ more) n ≡ listed_record l records n
 same_line l records more n inside =
     let octets : slice_index_or (records ++ more) n [] ≡ slice_index_or records n [] = get_or_append_left records more [] n inside in

@@ -34,7 +34,7 @@ mode_in l records =
     mode_after l.desk (map (λ x. x.value.cmr) (packets_of l.profile l.asked records))
 
 -- a refusal at the end of a line
-abbrev refused : List ℕ → List ℕ
+abbrev pub refused : List ℕ → List ℕ
 refused why = codes " refused=" ++ why ++ codes "\n"
 
 -- the fields of a packet
@@ -44,17 +44,17 @@ head_text packet =
     ++ field (codes "seq") packet.sequence ++ field (codes "ts") packet.timestamp
     ++ codes " ssrc=" ++ encode_lower (filled (nat 32 packet.ssrc))
 
-abbrev payload_or_refusal : Listing → ℕ → List ℕ → Option PayloadRefusal → List ℕ
+abbrev pub payload_or_refusal : Listing → ℕ → List ℕ → Option PayloadRefusal → List ℕ
 payload_or_refusal l mode payload (Some why) = refused (payload_refusal_text why)
 payload_or_refusal l mode payload None = listed_payload l.profile l.bits mode payload
 
 -- the payload of a packet: another type than the asked one is told without looking at it
-abbrev payload_part : Listing → ℕ → RtpPacket → List ℕ
+abbrev pub payload_part : Listing → ℕ → RtpPacket → List ℕ
 payload_part l mode packet = cond (is_asked l.asked packet.payload_type)
     (payload_or_refusal l mode packet.payload (refusal_in l.profile packet.payload))
     (refused (codes "type"))
 
-abbrev packet_part : Listing → ℕ → Result RtpPacket RtpRefusal → List ℕ
+abbrev pub packet_part : Listing → ℕ → Result RtpPacket RtpRefusal → List ℕ
 packet_part l mode (Err why) = refused (rtp_refusal_text why)
 packet_part l mode (Ok packet) = head_text packet ++ payload_part l mode packet
 

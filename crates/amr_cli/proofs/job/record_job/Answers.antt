@@ -3,7 +3,7 @@ use Rattle.amr_cli.proofs.Plans.{refused}
 use Rattle.amr_cli.specs.Jobs.{job_in}
 use Rattle.amr_cli.specs.declared.job.Job.TheVariants.{RecordLog}
 use Rattle.amr_frame.specs.declared.profile.Profile.{Profile}
-use Rattle.amr_gateway.specs.declared.job.RecordJob.{RecordJob}
+use Rattle.record_hearing.specs.declared.job.RecordJob.{RecordJob}
 use Rattle.spec_jobs.specs.Jobs.{if_valid}
 use Rattle.amr_cli.proofs.job.record_job.Goals as goal
 

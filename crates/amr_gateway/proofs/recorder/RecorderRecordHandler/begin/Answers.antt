@@ -1,13 +1,13 @@
 use Rattle.std.proofs.Common.{ap, sym, ◌∙◌, subst}
 use Rattle.std.specs.Io.KnownBytes.{Appends}
 use Rattle.std.proofs.lemmas.List.{append-nil}
-use Rattle.amr_gateway.proofs.Results.{on_err_then}
+use Rattle.record_hearing.proofs.Results.{on_err_then}
 use Rattle.spec_store.specs.StorageFile.{header}
 use Rattle.amr_gateway.proofs.recorder.RecorderRecordHandler.begin.Goals as goal
 
 pub returns-clause-failed : goal.returns-clause-failed
 returns-clause-failed g c =
-    let profile = c.args.self.now.job.plan.profile in
+    let profile = c.args.self.now.listener.job.plan.profile in
     let out = c.output-1.given.1 (sym (c.begin.ensures.same_reference ∙ c.new-writer.ensures.same_reference)) in
     on_err_then _ _ c.begin.result
     (λ part. record {

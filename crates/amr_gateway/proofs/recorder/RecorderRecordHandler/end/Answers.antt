@@ -1,32 +1,44 @@
-use Rattle.std.proofs.Common.{◌≡◌, refl, subst}
-use Rattle.amr_gateway.proofs.Results.{on_err_then, on_ok_then}
-use Rattle.amr_gateway.proofs.Tallying.{counted_right}
-use Rattle.amr_gateway.proofs.Texts.{puts_by, puts_part_by}
-use Rattle.amr_gateway.specs.Hearing.{among}
-use Rattle.amr_playout.specs.Plans.{rules_in}
-use Rattle.amr_playout.specs.declared.plan.Plan.{Plan}
-use Rattle.spec_segments.specs.Counts.{copy_count, late_count}
+use Rattle.std.proofs.Common.{ap, ◌∙◌, sym}
+use Rattle.std.proofs.lemmas.Result.{on_err_weaker, on_ok_weaker}
+use Rattle.amr_gateway.proofs.Plans.{takes_at}
+use Rattle.amr_gateway.proofs.Texts.{puts_all, puts_some, step_at}
+use Rattle.record_hearing.proofs.Plans.{channels_within}
+use Rattle.record_hearing.specs.Jobs.{recording_of}
+use Rattle.spec_record.specs.RecordMeaning.{records_job}
 use Rattle.amr_gateway.proofs.recorder.RecorderRecordHandler.end.Goals as goal
 
-pub end_session-requires-clause-unspent : goal.end_session-requires-clause-unspent
-end_session-requires-clause-unspent g c = c.requires.ready.unspent
+pub resume-writer-requires : goal.resume-writer-requires
+resume-writer-requires g c = channels_within c.args.self.now.listener.job.plan c.args.self.now.listener.served.served.plan
+
+pub finish-requires-clause-unspent : goal.finish-requires-clause-unspent
+finish-requires-clause-unspent g c = c.requires.ready.unspent
+
+pub finish-requires-clause-sink : goal.finish-requires-clause-sink
+finish-requires-clause-sink g c = record {
+  ready = takes_at c.args.self.now.listener.job.plan c.resume-writer.result.stage c.resume-writer.result.channels c.args.self.now.listener.served.served.plan c.resume-writer.ensures.stage c.resume-writer.ensures.format.1;
+  codec = c.resume-writer.ensures.format.0;
+  channels = c.resume-writer.ensures.format.1;
+}
 
 pub returns-clause-done : goal.returns-clause-done
 returns-clause-done g c =
-    let job = c.args.self.now.job in
-    let v = c.args.self.now.receiver in
-    on_ok_then _ _ c.end_session.result
-    (λ ended hs s.
-    let h = among job hs in (
-      counted_right job c.args.self.now.tally v.counts c.end_session.new.receiver.counts hs h refl s.tallied
-          (subst (λ (p : Plan). v.counts.late ≡ late_count (rules_in p) h) c.args.self.now.served.plan s.heard.counted.late)
-          (subst (λ (p : Plan). v.counts.copies ≡ copy_count (rules_in p) h) c.args.self.now.served.plan s.heard.counted.copies)
-          ended.late ended.copies (ended.blocks h s.heard),
-      puts_by job _ _ _ _ (ended.out h s.heard),
+    let out = c.output-1.given.1 (sym (c.finish.ensures.step.same.reference ∙ c.resume-writer.ensures.same_reference)) in
+    on_ok_weaker c.finish.result
+    (λ ended hs s. (
+      ended.counts hs s,
+      puts_all g.O.Sink g.met.O.Sink.reflexive g.met.O.Sink.transitive c.args.self.now.listener.job _ _ _ _ c.resume-writer.ensures.now out _ _ (ended.out hs s),
     ))
-    c.end_session.ensures.ended
+    c.finish.ensures.ended
 
 pub returns-clause-failed : goal.returns-clause-failed
 returns-clause-failed g c =
-    let job = c.args.self.now.job in
-    on_err_then _ _ c.end_session.result (λ part hs s. puts_part_by job _ _ _ _ (part.out (among job hs) s.heard)) c.end_session.ensures.part
+    let out = c.output-1.given.1 (sym (c.finish.ensures.step.same.reference ∙ c.resume-writer.ensures.same_reference)) in
+    on_err_weaker c.finish.result
+    (λ part hs s. puts_some g.O.Sink g.met.O.Sink.reflexive g.met.O.Sink.transitive c.args.self.now.listener.job _ _ _ _ c.resume-writer.ensures.now out _ _ (part.out hs s))
+    c.finish.ensures.part
+
+pub returns-clause-step : goal.returns-clause-step
+returns-clause-step g c =
+    let out = c.output-1.given.1 (sym (c.finish.ensures.step.same.reference ∙ c.resume-writer.ensures.same_reference)) in
+    step_at g.O.Sink g.met.O.Sink.reflexive g.met.O.Sink.transitive c.args.self.now.listener.job _ _ _ _ c.resume-writer.ensures.now out _ _ c.finish.result
+    (ap (λ j. records_job (recording_of j)) c.finish.ensures.job) c.finish.ensures.step.cause c.finish.ensures.step.same

@@ -1,54 +1,44 @@
-use Rattle.std.proofs.Common.{◌≡◌, ◌+◌, ℕ, ap, ◌∙◌, sym, subst, arith}
-use Rattle.amr_gateway.proofs.Results.{on_err}
-use Rattle.amr_gateway.proofs.Tallying.{packets_more, tallied_more}
-use Rattle.amr_gateway.proofs.Texts.{puts_by, puts_part_by}
-use Rattle.amr_gateway.specs.Going.{IsBounded}
-use Rattle.amr_gateway.specs.Jobs.{recording_of}
-use Rattle.run_report.specs.declared.counts.Counts.{Counts}
+use Rattle.std.proofs.Common.{ap, ◌∙◌, sym}
+use Rattle.std.proofs.lemmas.Result.{on_err_weaker, on_ok_weaker}
+use Rattle.amr_gateway.proofs.Plans.{takes_at}
+use Rattle.amr_gateway.proofs.Texts.{puts_all, puts_some, step_at}
+use Rattle.record_hearing.proofs.Plans.{channels_within}
+use Rattle.record_hearing.specs.Jobs.{recording_of}
+use Rattle.spec_record.specs.RecordMeaning.{records_job}
 use Rattle.amr_gateway.proofs.recorder.RecorderRecordHandler.handle.Goals as goal
 
-pub hear-requires : goal.hear-requires
-hear-requires g c =
-    let ready = c.requires.ready in record {
-      ready = record {
-        served = c.args.self.now.served;
-        unspent = ready.unspent;
-        records = c.args.self.now.tally.packets;
-        few = c.requires.few;
-        bounded = ready.bounded;
-      };
-    }
+pub resume-writer-requires : goal.resume-writer-requires
+resume-writer-requires g c = channels_within c.args.self.now.listener.job.plan c.args.self.now.listener.served.served.plan
 
-pub returns-in_err-heard-clause-failed : goal.returns-in_err-heard-clause-failed
-returns-in_err-heard-clause-failed g c =
-    on_err c.from_residual.result _
-    (λ hs s. puts_part_by c.args.self.now.job _ _ _ _ (c.in_err-heard.ensures.part.out hs s.heard))
+pub hear-requires-clause-sink : goal.hear-requires-clause-sink
+hear-requires-clause-sink g c = record {
+  ready = takes_at c.args.self.now.listener.job.plan c.resume-writer.result.stage c.resume-writer.result.channels c.args.self.now.listener.served.served.plan c.resume-writer.ensures.stage c.resume-writer.ensures.format.1;
+  codec = c.resume-writer.ensures.format.0;
+  channels = c.resume-writer.ensures.format.1;
+}
 
 pub returns-clause-done : goal.returns-clause-done
-returns-clause-done g c = λ hs s.
-    let job = c.args.self.now.job in
-    let heard = c.in_ok-heard.ensures.heard in (
-      record {
-        heard = heard.stands hs s.heard;
-        tallied =
-            tallied_more (recording_of job) c.args.self.now.tally c.count.new.counts hs c.args.packet.now
-            c.in_ok-heard.heard c.count.ensures.counted heard.told (heard.accepts hs s.heard) s.tallied;
-      },
-      puts_by job _ _ _ _ (heard.out hs s.heard),
-    )
+returns-clause-done g c =
+    let out = c.output-1.given.1 (sym (c.hear.ensures.step.same.reference ∙ c.resume-writer.ensures.same_reference)) in
+    on_ok_weaker c.hear.result
+    (λ heard hs s. (
+      heard.stands hs s,
+      puts_all g.O.Sink g.met.O.Sink.reflexive g.met.O.Sink.transitive c.args.self.now.listener.job _ _ _ _ c.resume-writer.ensures.now out _ _ (heard.out hs s),
+    ))
+    c.hear.ensures.heard
+
+pub returns-clause-failed : goal.returns-clause-failed
+returns-clause-failed g c =
+    let out = c.output-1.given.1 (sym (c.hear.ensures.step.same.reference ∙ c.resume-writer.ensures.same_reference)) in
+    on_err_weaker c.hear.result
+    (λ part hs s. puts_some g.O.Sink g.met.O.Sink.reflexive g.met.O.Sink.transitive c.args.self.now.listener.job _ _ _ _ c.resume-writer.ensures.now out _ _ (part.out hs s))
+    c.hear.ensures.part
 
 pub returns-clause-ready : goal.returns-clause-ready
-returns-clause-ready g c =
-    let on = c.in_ok-heard.ensures.heard.on in
-    let tally = c.args.self.now.tally in
-    let few = c.requires.few in
-    let more : c.count.new.counts.packets ≡ tally.packets + 1 =
-    ap (λ (k : Counts). k.packets) c.count.ensures.counted ∙ packets_more tally c.in_ok-heard.heard in (
-      record {
-        unspent = on.unspent;
-        small = c.count.ensures.small;
-        few = omega (arith, more, few);
-        bounded = subst (λ (n : ℕ). IsBounded n c.hear.new.receiver) (sym more) (on.bounded tally.packets c.requires.ready.bounded);
-      },
-      more,
-    )
+returns-clause-ready g c = on_ok_weaker c.hear.result (λ heard. (heard.going, heard.one)) c.hear.ensures.heard
+
+pub returns-clause-step : goal.returns-clause-step
+returns-clause-step g c =
+    let out = c.output-1.given.1 (sym (c.hear.ensures.step.same.reference ∙ c.resume-writer.ensures.same_reference)) in
+    step_at g.O.Sink g.met.O.Sink.reflexive g.met.O.Sink.transitive c.args.self.now.listener.job _ _ _ _ c.resume-writer.ensures.now out _ _ c.hear.result
+    (ap (λ j. records_job (recording_of j)) c.hear.ensures.job) c.hear.ensures.step.cause c.hear.ensures.step.same

@@ -12,4 +12,4 @@ returns-then-all_differ-clause-plain c =
 pub returns-then-all_differ-clause-modes : goal.returns-then-all_differ-clause-modes
 returns-then-all_differ-clause-modes c =
     let given = pairs (texts c.args.words.now) in
-    modes_taken c.args.command.now c.in_ok-codec.codec given given (sym c.are_allowed.ensures ∙ c.if-are_allowed.true)
+    modes_taken c.args.command.now c.in_ok-codec.codec given (sym c.are_allowed.ensures ∙ c.if-are_allowed.true)

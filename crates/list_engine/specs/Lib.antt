@@ -1,0 +1,5 @@
+pub mod Going
+pub mod Jobs
+pub mod Lines
+pub mod Payloads
+pub mod Records
