@@ -28,6 +28,7 @@ CASES = [
     ("groups", "file", ["stream", *GROUPS, "--blocks", "6", "--length", "5"], ["record", *GROUPS]),
     ("six", "six", ["stream", *SIX], ["record", *SIX]),
     ("stream", "file", None, ["stream", "--codec", "AMR"]),
+    ("list", "speech", None, ["list", "--codec", "AMR"]),
 ]
 
 
