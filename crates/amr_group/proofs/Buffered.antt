@@ -1,5 +1,5 @@
 -- What the fields of a buffer say of its blocks, and what its calls ask of them.
-use Rattle.std.proofs.Common.{◌≡◌, ℕ, ◌+◌, ◌*◌, ◌<◌, ◌≤◌, List, [], ◌∷◌, ◌++◌, length, take, drop, get_or, sym, ap, ◌∙◌, arith, subst}
+use Rattle.std.proofs.Common.{◌≡◌, ℕ, ◌+◌, ◌-◌, ◌*◌, ◌<◌, ◌≤◌, List, [], ◌∷◌, ◌++◌, length, take, drop, get_or, sym, ap, ◌∙◌, arith, subst}
 use Rattle.std.specs.Prelude.{vec_capacity}
 use Rattle.std.proofs.lemmas.List.{length-map, take_all}
 use Rattle.std.proofs.lemmas.Nat.{mul-le}
@@ -7,8 +7,8 @@ use Rattle.amr_frame.specs.Blocks.{IsPresentBlock}
 use Rattle.amr_frame.specs.Cells.{frame_of}
 use Rattle.amr_frame.specs.declared.cell.Cell.{Cell}
 use Rattle.amr_frame.specs.declared.codec.Codec.{Codec}
-use Rattle.amr_group.proofs.Rows.{is_block, length_rows, more_present, of_block, one_more, picked_more, picked_present, picked_run, row_at, rows_more, run_present}
-use Rattle.amr_group.specs.Buffer.{ArePresentBlocks, IsBuffer, View, picked, rows, size_of, view_of}
+use Rattle.amr_group.proofs.Rows.{is_block, length_rows, more_present, of_block, one_more, picked_more, picked_present, picked_run, rest_present, row_at, rows_drop, rows_more, run_present}
+use Rattle.amr_group.specs.Buffer.{ArePresentBlocks, IsBuffer, View, picked, room_of, rows, size_of, view_of}
 use Rattle.amr_group.specs.declared.buffer.GroupBuffer.TheInside.{Inside}
 use Rattle.amr_group.specs.declared.plan.GroupPlan.{GroupPlan}
 
@@ -20,12 +20,13 @@ count_is s v is = sym (length_rows s.channels s.count s.cells.items) ∙ ap (λ 
 
 -- ---- a part of the cells
 
-pub few : (s : Inside) (v : View) (n : ℕ) → IsBuffer s → view_of s ≡ v → n ≤ length v.blocks → n ≤ 1024
+pub few : (s : Inside) (v : View) (n : ℕ) → IsBuffer s → view_of s ≡ v → n ≤ length v.blocks → n ≤ 1279
 few s v n inv is le =
     let c = count_is s v is in
     let a = inv.count in
     let b = size_most s.plan in
-    omega (arith, le, c, a, b)
+    let d = inv.before in
+    omega (arith, le, c, a, b, d)
 
 pub within : (s : Inside) (v : View) (cells : List Cell) (n : ℕ) → IsBuffer s → view_of s ≡ v → cells ≡ s.cells.items
     → n ≤ length v.blocks → n * s.channels ≤ length cells
@@ -80,16 +81,16 @@ block_of : (s : Inside) (v : View) (cells : List Cell) → view_of s ≡ v → I
 block_of s v cells is block = of_block s.codec s.channels cells
     (subst (λ (o : View). IsPresentBlock o.codec o.channels cells) (sym is) block)
 
-pub not_full : (s : Inside) (v : View) → view_of s ≡ v → length v.blocks < size_of v.plan
-    → s.count < size_of s.plan
+pub not_full : (s : Inside) (v : View) → view_of s ≡ v → length v.blocks < room_of v
+    → s.count < size_of s.plan + s.before
 not_full s v is lt =
     let c = count_is s v is in
-    let p = ap (λ (o : View). size_of o.plan) is in
+    let p = ap room_of is in
     omega (arith, lt, c, p)
 
 pub has_room : (s : Inside) (v : View) (cells : List Cell) (len : ℕ) → IsBuffer s → view_of s ≡ v
     → len ≡ length s.cells.items
-    → length v.blocks < size_of v.plan → IsPresentBlock v.codec v.channels cells
+    → length v.blocks < room_of v → IsPresentBlock v.codec v.channels cells
     → len + length cells ≤ vec_capacity s.cells
 has_room s v cells len inv is same lt block =
     let n = not_full s v is lt in
@@ -97,7 +98,7 @@ has_room s v cells len inv is same lt block =
     let whole = inv.blocks.whole in
     let one = (block_of s v cells is block).whole in
     let t = one_more s.count s.channels in
-    let m = mul-le (s.count + 1) s.channels (size_of s.plan) s.channels (omega (arith, n)) (omega arith) in
+    let m = mul-le (s.count + 1) s.channels (size_of s.plan + s.before) s.channels (omega (arith, n)) (omega arith) in
     omega (arith, same, room, whole, one, t, m)
 
 pub more_so : (s : Inside) (v : View) (cells all : List Cell) → IsBuffer s → view_of s ≡ v
@@ -115,6 +116,23 @@ more_is s v cells all inv is block same =
     ap (rows s.channels (s.count + 1)) same
     ∙ rows_more s.channels s.count s.cells.items cells inv.blocks.whole (omega (arith, one))
     ∙ ap (λ (o : View). o.blocks ++ cells ∷ []) is
+
+-- ---- the first blocks dropped
+
+pub dropped_so : (s : Inside) (cells : List Cell) (n : ℕ) → IsBuffer s → n ≤ s.count
+    → cells ≡ drop (n * s.channels) s.cells.items → ArePresentBlocks s.codec s.channels (s.count - n) cells
+dropped_so s cells n inv le same =
+    subst (ArePresentBlocks s.codec s.channels (s.count - n)) (sym same)
+    (rest_present s.codec s.channels s.count s.cells.items n inv.blocks le)
+
+pub dropped_is : (s : Inside) (v : View) (cells : List Cell) (n : ℕ) → view_of s ≡ v → n ≤ length v.blocks
+    → cells ≡ drop (n * s.channels) s.cells.items
+    → record (view_of s) { blocks = rows s.channels (s.count - n) cells } ≡ record (v) { blocks = drop n v.blocks }
+dropped_is s v cells n is le same =
+    let c = count_is s v is in
+    (λ i. record (view_of s) { blocks = rows s.channels (s.count - n) (same i) })
+    ∙ (λ i. record (view_of s) { blocks = rows_drop s.channels s.count n s.cells.items (omega (arith, le, c)) i })
+    ∙ (λ i. record (is i) { blocks = drop n ((is i).blocks) })
 
 -- ---- the blocks of a packet
 

@@ -63,6 +63,18 @@ row_at c (suc n) xs (suc i) l =
     row_at c n (drop c xs) i (omega (arith, l))
     ∙ ap (take c) (drop-drop (i * c) c xs ∙ ap (λ k. drop k xs) (sym (one_less i c)))
 
+pub rows_drop : (c n k : ℕ) (xs : List Cell) → k ≤ n → rows c (n - k) (drop (k * c) xs) ≡ drop k (rows c n xs)
+rows_drop c n zero xs l =
+    let e : 0 * c ≡ 0 = omega arith in
+    let z : n - 0 ≡ n = omega arith in
+    λ i. rows c (z i) (drop (e i) xs)
+rows_drop c zero (suc k) xs l = absurd (omega (arith, l))
+rows_drop c (suc n) (suc k) xs l =
+    let z : suc n - suc k ≡ n - k = omega arith in
+    ap (λ m. rows c m (drop (suc k * c) xs)) z
+    ∙ ap (rows c (n - k)) (ap (λ m. drop m xs) (one_less k c) ∙ sym (drop-drop (k * c) c xs))
+    ∙ rows_drop c n k (drop c xs) (omega (arith, l))
+
 -- ---- picked blocks
 
 pub picked_more : (blocks : List (List Cell)) (f s n : ℕ)
@@ -135,6 +147,12 @@ run_present codec c n xs at count p le =
     let behind = (cut_present codec c at (n - at) xs (subst (λ k. ArePresentBlocks codec c k xs) split p)).1 in
     (cut_present codec c count (n - (at + count)) (drop (at * c) xs)
     (subst (λ k. ArePresentBlocks codec c k (drop (at * c) xs)) more behind)).0
+
+pub rest_present : (codec : Codec) (c n : ℕ) (xs : List Cell) (k : ℕ) → ArePresentBlocks codec c n xs → k ≤ n
+    → ArePresentBlocks codec c (n - k) (drop (k * c) xs)
+rest_present codec c n xs k p le =
+    let split : n ≡ k + (n - k) = omega (arith, le) in
+    (cut_present codec c k (n - k) xs (subst (λ m. ArePresentBlocks codec c m xs) split p)).1
 
 pub row_present : (codec : Codec) (c n : ℕ) (xs : List Cell) (i : ℕ) → ArePresentBlocks codec c n xs → i < n
     → ArePresentBlocks codec c 1 (get_or (rows c n xs) i [])

@@ -12,12 +12,18 @@ use Rattle.amr_group.specs.declared.plan.GroupPlan.{GroupPlan}
 abbrev pub size_of : GroupPlan → ℕ
 size_of p = p.blocks * p.length
 
--- the plan of the groups, the codec and the channels of the blocks, and the cells of each block
+-- the plan of the groups, how many blocks before one there is room for, the codec and the channels
+-- of the blocks, and the cells of each block
 pub record View : Type 0 where
   pub plan : GroupPlan
+  pub before : ℕ
   pub codec : Codec
   pub channels : ℕ
   pub blocks : List (List Cell)
+
+-- how many blocks there is room for
+abbrev pub room_of : View → ℕ
+room_of v = size_of v.plan + v.before
 
 -- cells that are all present, and whose frames are so many blocks of the codec and the channels
 pub record ArePresentBlocks (codec : Codec) (channels count : ℕ) (cells : List Cell) : Type 0 where
@@ -38,14 +44,16 @@ rows channels (suc n) cells = take channels cells ∷ rows channels n (drop chan
 abbrev pub view_of : Inside → View
 view_of s = record {
   plan = s.plan;
+  before = s.before;
   codec = s.codec;
   channels = s.channels;
   blocks = rows s.channels s.count s.cells.items;
 }
 
--- what holds of every buffer: there is room for a group, and the cells are as many blocks as were
--- counted
+-- what holds of every buffer: there is room for a group and the blocks before it, and the cells are
+-- as many blocks as were counted
 pub record IsBuffer (s : Inside) : Type 0 where
-  pub count : s.count ≤ size_of s.plan
-  pub room : size_of s.plan * s.channels ≤ vec_capacity s.cells
+  pub before : s.before ≤ 255
+  pub count : s.count ≤ size_of s.plan + s.before
+  pub room : (size_of s.plan + s.before) * s.channels ≤ vec_capacity s.cells
   pub blocks : ArePresentBlocks s.codec s.channels s.count s.cells.items

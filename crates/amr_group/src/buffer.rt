@@ -1,5 +1,5 @@
-// The blocks of one group.
-ghost use Rattle.std.specs.Prelude.{◌≡◌, ◌<◌, ◌≤◌, ◌+◌, ◌*◌, ◌++◌, ◌∷◌, ◌↔◌, List, [], IfOk, IsTrue, drop, length, slice_index_or, take};
+// The blocks of one group, and those before them that are kept.
+ghost use Rattle.std.specs.Prelude.{◌≡◌, ◌<◌, ◌≤◌, ◌+◌, ◌*◌, ◌++◌, ◌∷◌, List, [], IfOk, drop, length, slice_index_or, take, vec_capacity};
 ghost use Rattle.amr_frame.specs.Blocks.{IsPresentBlock};
 
 use crate::plan::GroupPlan;
@@ -7,11 +7,13 @@ use amr_frame::{Cell, Codec};
 use std::alloc::{AllocError, Global};
 use std::marker::Model;
 
-/// The blocks of one group, in the order in which they came. All its memory is taken when it is
-/// made.
+/// The blocks of one group and some before them, in the order in which they came. All its memory
+/// is taken when it is made.
 #[derive(Drop)]
 pub struct GroupBuffer {
     plan: GroupPlan,
+    /// How many blocks before a group there is room for.
+    before: u8,
     codec: Codec,
     channels: u8,
     count: u16,
@@ -31,7 +33,7 @@ impl Model for GroupBuffer {
 
 /// The cells of `count` blocks of so many channels, from block `at` on.
 fn stretch(cells: &[Cell], channels: u8, at: usize, count: usize) -> &[Cell]
-    requires few { at + count ≤ 1024 }
+    requires few { at + count ≤ 1279 }
     requires within { (at + count) * channels ≤ length cells.now }
 
     ensures { result.now ≡ take (count * channels) (drop (at * channels) cells.now) }
@@ -52,26 +54,46 @@ fn copy_block(block: &[Cell], out: &mut [Cell], k: u8)
     out[from..from + block.len()].copy_from_slice(block);
 }
 
-impl GroupBuffer {
-    ghost use Rattle.amr_group.specs.Buffer.{ArePresentBlocks, View, picked, size_of};
+/// Drops the cells of the first `count` blocks of so many channels, and moves the others to the
+/// front.
+fn drop_blocks(cells: &mut Vec<Cell>, channels: u8, count: usize)
+    requires few { count ≤ 1279 }
+    requires within { count * channels ≤ length cells.old.items }
 
-    /// An empty buffer, with room for one group of blocks of these channels.
+    ensures items { cells.new.items ≡ drop (count * channels) cells.old.items }
+    ensures capacity { vec_capacity cells.new ≡ vec_capacity cells.old }
+{
+    let from = count * usize::from(channels);
+    let len = cells.len();
+    cells.copy_within(from..len, 0);
+    cells.truncate(len - from);
+}
+
+impl GroupBuffer {
+    ghost use Rattle.amr_group.specs.Buffer.{ArePresentBlocks, View, picked, room_of, size_of};
+
+    /// An empty buffer, with room for one group of blocks of these channels and for so many blocks
+    /// before it.
     pub fn create(
         alloc: Global,
         plan: GroupPlan,
+        before: u8,
         codec: Codec,
         channels: u8,
     ) -> Result<GroupBuffer, AllocError>
         ensures empty { IfOk result (λ b. b ≡ record {
           plan = plan;
+          before = before;
           codec = codec;
           channels = channels;
           blocks = [];
         }) }
     {
-        let cells = Vec::with_capacity(alloc, usize::from(plan.size()) * usize::from(channels))?;
+        let room = usize::from(plan.size()) + usize::from(before);
+        let cells = Vec::with_capacity(alloc, room * usize::from(channels))?;
         Ok(GroupBuffer {
             plan,
+            before,
             codec,
             channels,
             count: 0,
@@ -81,7 +103,7 @@ impl GroupBuffer {
 
     /// Adds a block.
     pub fn add(&mut self, cells: &[Cell])
-        requires room { length self.old.blocks < size_of self.old.plan }
+        requires room { length self.old.blocks < room_of self.old }
         requires block { IsPresentBlock self.old.codec self.old.channels cells.now }
 
         ensures { self.new ≡ record (self.old) { blocks = self.old.blocks ++ cells.now ∷ [] } }
@@ -92,17 +114,10 @@ impl GroupBuffer {
         self.count += 1;
     }
 
-    /// Whether all blocks of a group are there.
-    pub fn full(&self) -> bool
-        ensures { IsTrue result ↔ (length self.now.blocks ≡ size_of self.now.plan) }
-    {
-        self.count == self.plan.size()
-    }
-
     /// How many blocks are there.
     pub fn len(&self) -> usize
         ensures exact { result ≡ length self.now.blocks }
-        ensures most { result ≤ size_of self.now.plan }
+        ensures most { result ≤ room_of self.now }
     {
         usize::from(self.count)
     }
@@ -145,11 +160,13 @@ impl GroupBuffer {
         stretch(&self.cells, self.channels, at, count)
     }
 
-    /// Takes all blocks out.
-    pub fn clear(&mut self)
-        ensures { self.new ≡ record (self.old) { blocks = [] } }
+    /// Drops the first blocks, and keeps the others.
+    pub fn pass(&mut self, count: usize)
+        requires within { count ≤ length self.old.blocks }
+
+        ensures { self.new ≡ record (self.old) { blocks = drop count self.old.blocks } }
     {
-        self.cells.clear();
-        self.count = 0;
+        drop_blocks(&mut self.cells, self.channels, count);
+        self.count -= count as u16;
     }
 }

@@ -1,5 +1,5 @@
 //! Interleaving groups (RFC 4867, 4.4.1): where each block stands in them, and the blocks of one
-//! group, kept until its packets are sent.
+//! group and some before it, kept until they are sent for the last time.
 #![tactic(auto)]
 
 mod buffer;

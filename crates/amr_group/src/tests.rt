@@ -28,18 +28,22 @@ fn two_packets_of_a_group(rt: HostRuntime) -> Result<(), Fail> {
         blocks: 2,
         length: 2,
     };
-    let mut group = GroupBuffer::create(rt.alloc(), plan, Codec::Amr, 1)?;
+    let mut group = GroupBuffer::create(rt.alloc(), plan, 1, Codec::Amr, 1)?;
     group.add(&[speech(0)]);
     group.add(&[speech(1)]);
     group.add(&[speech(2)]);
     group.add(&[speech(3)]);
-    assert_eq!(rt; (group.len(), group.full()), (4, true));
+    assert_eq!(rt; group.len(), 4);
     let mut out = [Cell::absent(), Cell::absent()];
     group.packet(1, &mut out);
     assert_eq!(rt; out, [speech(1), speech(3)]);
     assert_eq!(rt; group.blocks(1, 2), &[speech(1), speech(2)][..]);
     assert_eq!(rt; group.block(3), &[speech(3)][..]);
-    group.clear();
+    group.add(&[speech(4)]);
+    group.pass(3);
+    assert_eq!(rt; group.len(), 2);
+    assert_eq!(rt; group.blocks(0, 2), &[speech(3), speech(4)][..]);
+    group.pass(2);
     assert_eq!(rt; group.len(), 0);
     Ok(())
 }

@@ -19,6 +19,7 @@ invariant_of-self c =
     let kept = c.extend_from_slice.ensures.capacity in
     let room = c.self.invariant.room in
     record {
+      before = c.self.invariant.before;
       count = omega (arith, few);
       room = omega (arith, kept, room);
       blocks = more_so s c.args.self.now c.args.cells.now c.extend_from_slice.new.self.items c.self.invariant
