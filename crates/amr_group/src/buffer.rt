@@ -118,6 +118,7 @@ impl GroupBuffer {
     pub fn len(&self) -> usize
         ensures exact { result ≡ length self.now.blocks }
         ensures most { result ≤ room_of self.now }
+        ensures few { result ≤ 1279 }
     {
         usize::from(self.count)
     }
