@@ -1,7 +1,6 @@
 -- Blocks counted by whole packets and those behind them.
 use Rattle.std.proofs.Common.{◌≡◌, ℕ, ◌+◌, ◌-◌, ◌*◌, ◌/◌, ◌%◌, ◌<◌, ◌≤◌, sym, ap, ◌∙◌, arith}
 use Rattle.std.proofs.lemmas.Nat.{div-add-mod', div-mul-add, mod-mul-add, mod_below}
-use Rattle.amr_sender.specs.Plans.{IsPlain}
 use Rattle.amr_sender.specs.Sender.{first_held}
 use Rattle.spec_sending.specs.Portions.{pieces}
 use Rattle.spec_sending.specs.declared.plan.SendPlan.{SendPlan}
@@ -54,14 +53,16 @@ pieces_more m n q h c some =
     let e : m + n - 1 ≡ (q + 1) * n + (h - 1) = omega (arith, a, t, some, l) in
     ap (λ k. k / n) e ∙ div-mul-add (q + 1) n (h - 1) (omega (arith, l))
 
--- the first block held is the one behind the whole groups
-pub first_is : (s : SendPlan) (m q h : ℕ) → IsPlain s → Counted m (s.blocks * s.length) q h
-    → first_held s m ≡ q * (s.blocks * s.length)
-first_is s m q h plain c =
-    let none = plain.repeat in
-    let grouped : m / (s.blocks * s.length) * (s.blocks * s.length) ≡ q * (s.blocks * s.length) =
-    ap (λ k. k * (s.blocks * s.length)) c.whole in
-    omega (arith, none, grouped)
+-- the first block held is the one behind the whole groups, or one before it that is sent again
+pub first_is : (s : SendPlan) (m q h : ℕ) → Counted m (s.blocks * s.length) q h
+    → first_held s m ≡ q * (s.blocks * s.length) - s.repeat
+first_is s m q h c = ap (λ k. k * (s.blocks * s.length) - s.repeat) c.whole
+
+pub first_within : (s : SendPlan) (m q h : ℕ) → Counted m (s.blocks * s.length) q h → first_held s m ≤ m
+first_within s m q h c =
+    let is = first_is s m q h c in
+    let a = c.all in
+    omega (arith, is, a)
 
 pub none_behind : (n : ℕ) → 1 ≤ n → 0 ≡ 0 % n
 none_behind n one = sym (ap (λ k. k % n) (let e : 0 ≡ 0 * n + 0 = omega arith in e) ∙ mod-mul-add 0 n 0 one)

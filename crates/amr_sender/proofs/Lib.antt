@@ -9,3 +9,4 @@ pub mod Results
 pub mod Singly
 pub mod Steps
 pub mod Taken
+pub mod Trimming

@@ -1,5 +1,5 @@
 -- What a plan that the sender takes has, and what its packets can say.
-use Rattle.std.proofs.Common.{◌≡◌, refl, ap, Option, Some, None, ℕ, zero, suc, ◌*◌, ◌≤◌, ◌<◌, min, inl, inr, List, [], ◌∷◌, length, Bool, true, false, not, ◌||◌, ◌&&◌, eqb, ltb, arith, get_or, ◌∙◌}
+use Rattle.std.proofs.Common.{◌≡◌, ◌⊎◌, ◌+◌, refl, ap, Option, Some, None, ℕ, zero, suc, ◌*◌, ◌≤◌, ◌<◌, min, inl, inr, List, [], ◌∷◌, length, Bool, true, false, not, ◌||◌, ◌&&◌, eqb, ltb, arith, get_or, ◌∙◌}
 use Rattle.std.proofs.lemmas.List.{length-map}
 use Rattle.std.proofs.lemmas.Nat.{mul-le}
 use Rattle.std.specs.Prelude.{option_map, is_some}
@@ -17,9 +17,8 @@ use Rattle.amr_frame.specs.declared.profile.ProfileFault.TheVariants as format
 use Rattle.amr_frame.proofs.FirstLemmas.{first_none, or_false, when_none}
 use Rattle.amr_sender.specs.Packets.{CanCarry, FitsPlan, said}
 use Rattle.amr_sender.specs.declared.packet.Head.{Head}
-use Rattle.amr_sender.specs.Plans.{Serves}
 use Rattle.spec_payload.specs.Values.{FitsGroup, IsValue}
-use Rattle.spec_sending.specs.Plans.{carried_blocks, grouped_blocks, is_request, is_speech, passes_group}
+use Rattle.spec_sending.specs.Plans.{IsPlan, carried_blocks, grouped_blocks, is_request, is_speech, passes_group}
 use Rattle.amr_frame.specs.Tables.{kind_in}
 use Rattle.spec_sending.specs.declared.fault.SendFault.TheVariants as fault
 use Rattle.spec_sending.specs.declared.plan.SendPlan.{SendPlan}
@@ -46,51 +45,66 @@ first_false : (a : Bool) → (a && true) ≡ false → a ≡ false
 first_false true e = e
 first_false false e = refl
 
+-- a plan with groups sends no block again
+abbrev pub Again : SendPlan → Type 0
+Again s = (s.repeat ≡ 0) ⊎ (s.length ≡ 1)
+
+again_so : (r l : ℕ) → (not (eqb r 0) && not (eqb l 1)) ≡ false → (r ≡ 0) ⊎ (l ≡ 1)
+again_so zero l e = inl refl
+again_so (suc r) l e = inr (grind (arith, e))
+
 fits_group : (s : SendPlan) (most n : ℕ) (head : Head) (frames : List Frame) → s.blocks * s.length ≤ most
-    → 1 ≤ s.length → s.length ≤ 16 → n ≤ s.blocks → FitsPlan s head → FitsGroup (Some most) n (said s head frames)
-fits_group s most n head frames b some few le (inl one) =
+    → s.blocks + s.repeat ≤ most → Again s
+    → 1 ≤ s.length → s.length ≤ 16 → n ≤ s.blocks + s.repeat → FitsPlan s head
+    → FitsGroup (Some most) n (said s head frames)
+fits_group s most n head frames b c again some few le (inl one) =
     let stride = one.0 in
     let index = one.1 in
-    let m = mul-le s.blocks 1 s.blocks s.length (omega arith) some in
     let p : n * head.stride ≡ n * 1 = ap (λ k. n * k) stride in
-    (omega (arith, stride), omega (arith, stride), omega (arith, stride, index), omega (arith, b, m, le, p))
-fits_group s most n head frames b some few le (inr turn) =
+    (omega (arith, stride), omega (arith, stride), omega (arith, stride, index), omega (arith, c, le, p))
+fits_group s most n head frames b c (inl none) some few le (inr turn) =
     let stride = turn.0 in
     let index = turn.1 in
-    let m = mul-le n s.length s.blocks s.length le (omega arith) in
+    let m = mul-le n s.length s.blocks s.length (omega (arith, le, none)) (omega arith) in
     let p : n * head.stride ≡ n * s.length = ap (λ k. n * k) stride in
     (omega (arith, stride, some), omega (arith, stride, few), omega (arith, stride, index), omega (arith, b, m, p))
+fits_group s most n head frames b c (inr single) some few le (inr turn) =
+    let stride = turn.0 in
+    let index = turn.1 in
+    let p : n * head.stride ≡ n * 1 = ap (λ k. n * k) (stride ∙ single) in
+    (omega (arith, stride, some), omega (arith, stride, few), omega (arith, stride, index), omega (arith, c, le, p))
 
 fits : (o : Option ℕ) (s : SendPlan) (n : ℕ) (head : Head) (frames : List Frame)
-    → (ltb 1 s.length && not (is_some o)) ≡ false → passes_group (group_bound o) s ≡ false
-    → 1 ≤ s.length → s.length ≤ 16 → n ≤ s.blocks → FitsPlan s head
+    → (ltb 1 s.length && not (is_some o)) ≡ false → passes_group (group_bound o) s ≡ false → Again s
+    → 1 ≤ s.length → s.length ≤ 16 → n ≤ s.blocks + s.repeat → FitsPlan s head
     → FitsGroup (group_bound o) n (said s head frames)
-fits None s n head frames alone e some few le (inl one) = one
-fits None s n head frames alone e some few le (inr turn) =
+fits None s n head frames alone e again some few le (inl one) = one
+fits None s n head frames alone e again some few le (inr turn) =
     let single : ltb 1 s.length ≡ false = first_false (ltb 1 s.length) alone in
     let most = within 1 s.length single in
     let stride = turn.0 in
     let index = turn.1 in
     (omega (arith, stride, most, some), omega (arith, index, most))
-fits (Some i) s n head frames alone e some few le turn =
+fits (Some i) s n head frames alone e again some few le turn =
     let most = min i 1024 in
-    fits_group s most n head frames
-    (within most (grouped_blocks s) (or_false (ltb most (grouped_blocks s)) (ltb most (carried_blocks s)) e).0)
-    some few le turn
+    let both = or_false (ltb most (grouped_blocks s)) (ltb most (carried_blocks s)) e in
+    fits_group s most n head frames (within most (grouped_blocks s) both.0) (within most (carried_blocks s) both.1)
+    again some few le turn
 
 -- what a plan that the sender takes has
 pub record Facts (s : SendPlan) : Type 0 where
   pub format : IsValid s.profile
   pub blocks : 1 ≤ s.blocks
-  pub most : s.blocks ≤ s.profile.max_blocks
+  pub most : s.blocks + s.repeat ≤ s.profile.max_blocks
   pub length : 1 ≤ s.length
   pub turns : s.length ≤ 16
-  pub group : (n : ℕ) (head : Head) (frames : List Frame) → n ≤ s.blocks → FitsPlan s head
+  pub again : Again s
+  pub group : (n : ℕ) (head : Head) (frames : List Frame) → n ≤ s.blocks + s.repeat → FitsPlan s head
       → FitsGroup (group_bound s.profile.interleaving) n (said s head frames)
   pub request : s.cmr < 16
   pub number : s.pt ≤ 127
 
-pub facts : (s : SendPlan) → Serves s → Facts s
+pub facts : (s : SendPlan) → IsPlan s → Facts s
 facts s h =
     let few = eqb s.blocks 0 || ltb s.profile.max_blocks (carried_blocks s) in
     let far = eqb s.length 0 || ltb 16 s.length in
@@ -99,7 +113,7 @@ facts s h =
     let again = not (eqb s.repeat 0) && not (eqb s.length 1) in
     let asks = not (is_request s.profile.codec s.cmr) in
     let format = option_map (λ why. fault.Profile why) (profile_fault s.profile) in
-    let f1 = first_none format _ h.valid in
+    let f1 = first_none format _ h in
     let f2 = first_none (when few fault.Blocks) _ f1.1 in
     let f3 = first_none (when far fault.Length) _ f2.1 in
     let f4 = first_none (when alone fault.Length) _ f3.1 in
@@ -112,6 +126,7 @@ facts s h =
     let l = or_false (eqb s.length 0) (ltb 16 s.length) (when_none far fault.Length f3.0) in
     let some = above s.length l.0 in
     let few_turns = within 16 s.length l.1 in
+    let no_more = again_so s.repeat s.length (when_none again fault.Repeat f6.0) in
     let speech = eqb s.cmr 15 || is_speech (kind_in s.profile.codec s.cmr) in
     record {
       format = is_none (profile_fault s.profile) f1.0;
@@ -119,14 +134,15 @@ facts s h =
       most = omega (arith, most);
       length = some;
       turns = few_turns;
+      again = no_more;
       group = λ n head frames le turn. fits s.profile.interleaving s n head frames
-          (when_none alone fault.Length f4.0) (when_none group fault.Group f5.0) some few_turns le turn;
+          (when_none alone fault.Length f4.0) (when_none group fault.Group f5.0) no_more some few_turns le turn;
       request = below s.cmr 16 (first_true (ltb s.cmr 16) speech (when_none asks fault.Request f7.0));
       number = within 127 s.pt (when_none (ltb 127 s.pt) fault.Number f8.0);
     }
 
 -- the blocks of one packet are a value of the format
-pub value : (s : SendPlan) (head : Head) (cells : List Cell) → Serves s → (h : CanCarry s head cells)
+pub value : (s : SendPlan) (head : Head) (cells : List Cell) → IsPlan s → (h : CanCarry s head cells)
     → IsValue s.profile (said s head (frames_of cells))
 value s head cells plan h =
     let k = facts s plan in
@@ -152,7 +168,7 @@ most_of p valid =
     within 64 p.max_blocks (or_false (eqb p.max_blocks 0) (ltb 64 p.max_blocks)
     (when_none (eqb p.max_blocks 0 || ltb 64 p.max_blocks) format.MaxBlocks f4.0)).1
 
-pub most_blocks : (s : SendPlan) → Serves s → s.blocks ≤ 64
+pub most_blocks : (s : SendPlan) → IsPlan s → s.blocks ≤ 64
 most_blocks s plan =
     let k = facts s plan in
     let most = k.most in
@@ -160,7 +176,7 @@ most_blocks s plan =
     omega (arith, most, bound)
 
 -- a group has a block
-pub some_group : (s : SendPlan) → Serves s → 1 ≤ s.blocks * s.length
+pub some_group : (s : SendPlan) → IsPlan s → 1 ≤ s.blocks * s.length
 some_group s plan =
     let k = facts s plan in
     let m = mul-le 1 1 s.blocks s.length k.blocks k.length in

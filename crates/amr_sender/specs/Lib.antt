@@ -1,6 +1,5 @@
 pub mod Held
 pub mod Packets
-pub mod Plans
 pub mod Sender
 pub mod Sends
 pub mod Single

@@ -1,6 +1,6 @@
 -- The packet that carries some frames, as the sender makes it. This project's own, over RTP packets
 -- (RFC 3550, 5.1) with the payloads of RFC 4867, 4.
-use Rattle.std.specs.Prelude.{◌≡◌, ◌⊎◌, ℕ, ◌≤◌, ◌<◌, ◌-◌, Bool, ◌&&◌, nat_lt, List, [], take, None, Result, OnOk, OnErr}
+use Rattle.std.specs.Prelude.{◌≡◌, ◌⊎◌, ℕ, ◌≤◌, ◌<◌, ◌-◌, ◌*◌, ◌^◌, Bool, ◌&&◌, nat_lt, List, [], take, None, Result, OnOk, OnErr}
 use Rattle.amr_frame.specs.declared.cell.Cell.{Cell}
 use Rattle.amr_frame.specs.Frames.{Frame}
 use Rattle.amr_group.specs.Buffer.{ArePresentBlocks}
@@ -12,6 +12,7 @@ use Rattle.rtp_packet.specs.Written.{written}
 use Rattle.spec_packet.specs.Rtp.{RtpPacket}
 use Rattle.spec_payload.specs.Grammar.{text}
 use Rattle.spec_payload.specs.Values.{Value}
+use Rattle.spec_sending.specs.Plans.{carried_blocks}
 use Rattle.spec_sending.specs.Sending.{block_of, has_speech, sequence_of, timestamp_of}
 use Rattle.spec_sending.specs.declared.plan.SendPlan.{SendPlan}
 
@@ -67,13 +68,17 @@ FitsPlan s head = ((head.stride ≡ 1) × (head.index ≡ 0))
     ⊎ ((head.stride ≡ s.length) × (head.index < s.length))
 
 -- cells that are the blocks of one packet with this head: at least one, and at most as many as the
--- plan's packets have
+-- plan's packets have with their repeats
 pub record CanCarry (s : SendPlan) (head : Head) (cells : List Cell) : Type 0 where
   pub count : ℕ
   pub some : 1 ≤ count
-  pub most : count ≤ s.blocks
+  pub most : count ≤ carried_blocks s
   pub blocks : ArePresentBlocks s.profile.codec s.profile.channels count cells
   pub turn : FitsPlan s head
+
+-- the most blocks that a sender takes
+abbrev pub block_limit : ℕ
+block_limit = 3 * 2 ^ 54
 
 -- whether block n - 1, where there is one, has a frame of speech
 abbrev pub speech_before : SendPlan → List (List Frame) → ℕ → Bool

@@ -1,10 +1,10 @@
 -- What contracts see of a sender, and what it stands for. This project's own.
-use Rattle.std.specs.Prelude.{◌≡◌, ℕ, ◌+◌, ◌-◌, ◌*◌, ◌%◌, ◌^◌, ◌<◌, ◌≤◌, Bool, false, List, length, drop, vec_len}
+use Rattle.std.specs.Prelude.{◌≡◌, ℕ, ◌+◌, ◌-◌, ◌*◌, ◌%◌, ◌<◌, ◌≤◌, Bool, false, List, length, drop, vec_len}
 use Rattle.amr_frame.specs.Frames.{Frame}
 use Rattle.amr_sender.specs.declared.sender.Sender.TheInside.{Inside}
 use Rattle.amr_sender.specs.Held.{IsGroupOf, held_of}
-use Rattle.amr_sender.specs.Packets.{speech_before}
-use Rattle.amr_sender.specs.Plans.{Serves}
+use Rattle.amr_sender.specs.Packets.{block_limit, speech_before}
+use Rattle.spec_sending.specs.Plans.{IsPlan}
 use Rattle.spec_sending.specs.Portions.{grouped}
 use Rattle.spec_sending.specs.Sending.{begun}
 use Rattle.spec_sending.specs.declared.plan.SendPlan.{SendPlan}
@@ -30,21 +30,22 @@ view_of s = record {
   spent = s.spent;
 }
 
--- what holds of every sender: its rooms are as large as when it was made; where it isn't spent, the
--- blocks held are those behind the last whole group
-pub record IsSender (s : Inside) : Type 0 where
-  pub plan : Serves s.plan
-  pub group : IsGroupOf s.plan s.group
-  pub octets : vec_len s.room ≡ 23822
-  pub cells : vec_len s.cells ≡ s.plan.blocks * s.plan.profile.channels
-  pub blocks : s.blocks ≤ 2 ^ 53
-  pub packets : s.spent ≡ false → s.packets + length s.group.blocks ≤ s.blocks
-  pub count : s.spent ≡ false
-      → length s.group.blocks ≡ s.blocks % (s.plan.blocks * s.plan.length)
-
 -- the number of the first block that is held of m blocks: the first that further packets carry
 abbrev pub first_held : SendPlan → ℕ → ℕ
 first_held s m = grouped s m - s.repeat
+
+-- what holds of every sender: its rooms are as large as when it was made; where it isn't spent, the
+-- blocks held are those that further packets carry, and those behind the last whole group are
+-- counted
+pub record IsSender (s : Inside) : Type 0 where
+  pub plan : IsPlan s.plan
+  pub group : IsGroupOf s.plan s.group
+  pub octets : vec_len s.room ≡ 23822
+  pub cells : vec_len s.cells ≡ s.plan.blocks * s.plan.profile.channels
+  pub blocks : s.blocks ≤ block_limit
+  pub packets : s.spent ≡ false → s.packets + s.fresh ≤ s.blocks
+  pub fresh : s.spent ≡ false → s.fresh ≡ s.blocks % (s.plan.blocks * s.plan.length)
+  pub count : s.spent ≡ false → length s.group.blocks ≡ s.blocks - first_held s.plan s.blocks
 
 -- the sender stands for these blocks: it knows their number, the number of packets begun for them,
 -- the last blocks, and whether the block before those has speech
@@ -58,4 +59,4 @@ pub record StandsFor (v : View) (b : List (List Frame)) : Type 0 where
 -- it takes a block more: no call failed, and the number of blocks isn't near what it can be
 pub record TakesBlock (v : View) : Type 0 where
   pub unspent : v.spent ≡ false
-  pub few : v.blocks < 2 ^ 53
+  pub few : v.blocks < block_limit

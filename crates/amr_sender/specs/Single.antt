@@ -11,10 +11,12 @@ use Rattle.spec_sending.specs.Sending.{begun}
 use Rattle.spec_sending.specs.declared.plan.SendPlan.{SendPlan}
 use Rattle.spec_store.specs.StorageReading.{frame_in}
 
--- each packet has one frame, in a bandwidth-efficient payload
+-- each packet has one frame, in a bandwidth-efficient payload, and none is left out
 pub record SendsSingly (s : SendPlan) : Type 0 where
   pub blocks : s.blocks ≡ 1
   pub length : s.length ≡ 1
+  pub repeat : s.repeat ≡ 0
+  pub skip : s.skip_empty ≡ false
   pub channels : s.profile.channels ≡ 1
   pub packed : s.profile.octet_aligned ≡ false
 

@@ -1,15 +1,15 @@
 // One packet: what stands in its header, written in front of its payload, and put to a sink.
 ghost use Rattle.std.specs.List.{AllByRecursion};
-ghost use Rattle.std.specs.Prelude.{◌≡◌, ◌≤◌, ◌<◌, ◌^◌, ℕ, IsTrue, List, None, OnErr, OnOk, [], length, take};
+ghost use Rattle.std.specs.Prelude.{◌≡◌, ◌≤◌, ◌<◌, ◌+◌, ◌&&◌, ℕ, IsTrue, List, OnErr, OnOk, length, nat_eq, take};
 ghost use Rattle.amr_frame.specs.Blocks.{frames_of};
 ghost use Rattle.amr_frame.specs.Frames.{Frame, IsFrame};
-ghost use Rattle.amr_sender.specs.Packets.{BeginsWith, CanCarry, IsPlainHeader, PutsPacket, packet_with, said};
-ghost use Rattle.amr_sender.specs.Plans.{Serves};
+ghost use Rattle.amr_sender.specs.Packets.{BeginsWith, CanCarry, IsPlainHeader, PutsPacket, block_limit, packet_with, said};
 ghost use Rattle.amr_toc.specs.Payloads.{Carries, meant};
 ghost use Rattle.rtp_packet.specs.PacketSteps.{PacketStep};
 ghost use Rattle.rtp_packet.specs.Written.{packet_of, written};
 ghost use Rattle.spec_payload.specs.Grammar.{text};
-ghost use Rattle.spec_sending.specs.Sending.{has_speech};
+ghost use Rattle.spec_sending.specs.Plans.{IsPlan};
+ghost use Rattle.spec_sending.specs.Sending.{has_speech, is_empty};
 
 use amr_frame::{Cell, Codec, Kind, Profile, kind_of, step};
 use amr_io::Failed;
@@ -62,11 +62,30 @@ pub fn speaks(codec: Codec, block: &[Cell]) -> bool
     false
 }
 
+/// Whether a frame is NO_DATA; one of type 15 with Q = 0 isn't.
+fn is_no_data(cell: &Cell) -> bool
+    ensures { result ≡ (nat_eq cell.now.ft 15 && cell.now.q) }
+{
+    cell.ft == 15 && cell.q
+}
+
+/// Whether blocks are NO_DATA in all channels.
+pub fn is_silent(cells: &[Cell]) -> bool
+    ensures { result ≡ is_empty (frames_of cells.now) }
+{
+    for cell in cells {
+        if !is_no_data(cell) {
+            return false;
+        }
+    }
+    true
+}
+
 /// The fields of a header.
 #[inline(always)]
 pub fn fields_of(plan: &SendPlan, head: Head) -> RtpFields<'static>
     requires number { plan.now.pt ≤ 127 }
-    requires first { head.first < 2 ^ 54 }
+    requires first { head.first < block_limit + 2048 }
 
     ensures packet { (frames : List Frame)
         → packet_of result (text plan.now.profile (said plan.now head frames))
@@ -121,8 +140,8 @@ pub fn send<P: PacketSink>(
     room: &mut [u8],
     out: &mut P,
 ) -> Result<(), Failed>
-    requires plan { Serves plan.now }
-    requires first { head.first < 2 ^ 54 }
+    requires plan { IsPlan plan.now }
+    requires first { head.first < block_limit + 2048 }
     requires cells { CanCarry plan.now head cells.now }
     requires room { length room.old ≡ 23822 }
     requires sink { IsTrue (P.ready out.old) }

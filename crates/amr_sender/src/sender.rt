@@ -1,13 +1,12 @@
 // The sender of a stream.
-ghost use Rattle.std.specs.Prelude.{◌≡◌, ◌↔◌, ◌≤◌, ◌++◌, ◌∷◌, ℕ, IfOk, IsTrue, List, OnErr, OnOk, [], false, length, true};
+ghost use Rattle.std.specs.Prelude.{◌≡◌, ◌↔◌, ◌≤◌, ◌*◌, ◌++◌, ◌∷◌, ℕ, IfOk, IsTrue, List, OnErr, OnOk, [], false, length, true};
 ghost use Rattle.amr_frame.specs.Blocks.{IsPresentBlock, frames_of};
-ghost use Rattle.amr_sender.specs.Plans.{IsPlain};
 ghost use Rattle.rtp_packet.specs.PacketSteps.{PacketStep};
 ghost use Rattle.spec_sending.specs.Plans.{IsPlan};
 ghost use Rattle.spec_store.specs.StorageReading.{frame_in, is_unit};
 
-use crate::groups::{put_group, put_rest, rest_size};
-use crate::packet::{Behind, Head, MOST_OCTETS, speaks};
+use crate::groups::{put_full, put_left, spoken_before};
+use crate::packet::{Behind, Head, MOST_OCTETS};
 use crate::single::{
     MOST_UNIT, SINGLE_ROOM, begins_talkspurt, is_single, unit_speaks, write_single,
 };
@@ -19,13 +18,19 @@ use spec_sending::SendPlan;
 use std::alloc::{AllocError, Global};
 use std::marker::Model;
 
+/// The most blocks that a sender takes.
+const MOST_BLOCKS: u64 = 3 << 54;
+
 /// The sender of one stream: blocks in their order go in, and the packets that carry them come out,
 /// each as soon as its last block came. All its memory is taken when it is made.
 #[derive(Drop)]
 pub struct Sender {
     plan: SendPlan,
-    /// The blocks held for the next packets.
+    /// The blocks held for the next packets: those that came since the last packets, and before
+    /// them those that are sent again.
     group: GroupBuffer,
+    /// How many blocks came since the last packets.
+    fresh: u16,
     /// The cells of one packet of a group.
     cells: Vec<Cell>,
     /// The octets of one packet.
@@ -47,6 +52,13 @@ impl Model for Sender {
     ghost invariant = { IsSender };
 }
 
+/// How many blocks complete the packets of a group, or a packet of consecutive blocks.
+fn group_size(plan: &SendPlan) -> u16
+    ensures { result ≡ plan.now.blocks * plan.now.length }
+{
+    u16::from(plan.blocks) * u16::from(plan.length)
+}
+
 impl Sender {
     ghost use Rattle.amr_frame.specs.Frames.{Frame};
     ghost use Rattle.amr_sender.specs.Sender.{StandsFor, TakesBlock};
@@ -54,10 +66,10 @@ impl Sender {
     ghost use Rattle.amr_sender.specs.Single.{Makes, SendsSingly};
     ghost use Rattle.spec_sending.specs.Sending.{begun};
 
-    /// A sender that has got nothing, with room for one packet and one group of blocks.
+    /// A sender that has got nothing, with room for one packet, one group of blocks and those that
+    /// are sent again.
     pub fn create(alloc: Global, plan: SendPlan) -> Result<Sender, AllocError>
-        requires valid { IsPlan plan }
-        requires plain { IsPlain plan }
+        requires { IsPlan plan }
 
         ensures stands { IfOk result (λ s. StandsFor s []) }
         ensures plan { IfOk result (λ s. s.plan ≡ plan) }
@@ -68,13 +80,20 @@ impl Sender {
             blocks: plan.blocks,
             length: plan.length,
         };
-        let group = GroupBuffer::create(alloc, groups, plan.profile.codec, plan.profile.channels)?;
+        let group = GroupBuffer::create(
+            alloc,
+            groups,
+            plan.repeat,
+            plan.profile.codec,
+            plan.profile.channels,
+        )?;
         let most = usize::from(plan.blocks) * usize::from(plan.profile.channels);
         let cells = vec![in alloc; Cell::absent(); most]?;
         let room = vec![in alloc; 0u8; MOST_OCTETS]?;
         Ok(Sender {
             plan,
             group,
+            fresh: 0,
             cells,
             room,
             blocks: 0,
@@ -93,7 +112,16 @@ impl Sender {
         self.packets
     }
 
-    /// Takes a block, and puts the packets of the group of which it is the last.
+    /// Whether it takes a block more: no call failed, it wasn't ended, and fewer than 3 * 2^54
+    /// blocks came.
+    pub fn takes_block(&self) -> bool
+        ensures { IsTrue result ↔ TakesBlock self.now }
+    {
+        !self.spent && self.blocks < MOST_BLOCKS
+    }
+
+    /// Takes a block, and puts the packet, or the packets of the group, of which it is the last;
+    /// packets that the plan leaves out aren't put.
     ///
     /// `Failed` comes only where the sink's faults rose: the sender is then spent.
     pub fn put_block<P: PacketSink>(&mut self, cells: &[Cell], out: &mut P) -> Result<(), Failed>
@@ -110,8 +138,9 @@ impl Sender {
         ensures step { PacketStep P.PacketSink out.old out.new result }
     {
         self.group.add(cells);
+        self.fresh += 1;
         self.blocks += 1;
-        if !self.group.full() {
+        if self.fresh < group_size(&self.plan) {
             return Ok(());
         }
         self.spent = true;
@@ -120,7 +149,7 @@ impl Sender {
             packets: self.packets,
             blocks: self.blocks - self.group.len() as u64,
         };
-        put_group(
+        let sent = put_full(
             &self.plan,
             behind,
             &self.group,
@@ -128,15 +157,20 @@ impl Sender {
             &mut self.room,
             out,
         )?;
-        self.spoken = speaks(self.plan.profile.codec, cells);
-        self.group.clear();
-        self.packets += u64::from(self.plan.length);
+        let gone = self
+            .group
+            .len()
+            .saturating_sub(usize::from(self.plan.repeat));
+        self.spoken = spoken_before(self.plan.profile.codec, &self.group, self.spoken, gone);
+        self.group.pass(gone);
+        self.fresh = 0;
+        self.packets += sent;
         self.spent = false;
         Ok(())
     }
 
-    /// Whether each packet carries one frame, in a bandwidth-efficient payload (RFC 4867, 4.3):
-    /// `make_packet` makes such packets.
+    /// Whether each packet carries one frame, in a bandwidth-efficient payload (RFC 4867, 4.3), and
+    /// none is left out: `make_packet` makes such packets.
     pub fn sends_singly(&self) -> bool
         ensures { IsTrue result ↔ SendsSingly self.now.plan }
     {
@@ -176,7 +210,8 @@ impl Sender {
         size
     }
 
-    /// Puts the packets of the blocks that are left, fewer than a group, and ends the sender.
+    /// Puts the packets of the blocks that are left, fewer than a group or than a packet has, and
+    /// ends the sender.
     ///
     /// `Failed` comes only where the sink's faults rose.
     pub fn finish<P: PacketSink>(&mut self, out: &mut P) -> Result<(), Failed>
@@ -197,8 +232,15 @@ impl Sender {
             packets: self.packets,
             blocks: self.blocks - self.group.len() as u64,
         };
-        put_rest(&self.plan, behind, &self.group, &mut self.room, out)?;
-        self.packets += rest_size(&self.plan, &self.group);
+        let sent = put_left(
+            &self.plan,
+            behind,
+            &self.group,
+            self.fresh,
+            &mut self.room,
+            out,
+        )?;
+        self.packets += sent;
         Ok(())
     }
 }

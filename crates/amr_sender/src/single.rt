@@ -3,10 +3,10 @@
 ghost use Rattle.std.specs.Prelude.{◌≡◌, ◌↔◌, ◌≤◌, ◌<◌, ◌+◌, ◌*◌, ◌^◌, ℕ, IsTrue, List, [], ◌∷◌, ◌&&◌, cond, length, not, slice_index};
 ghost use Rattle.amr_bits.specs.Bits.{number_at};
 ghost use Rattle.amr_frame.specs.Tables.{bits_in};
-ghost use Rattle.amr_sender.specs.Packets.{BeginsWith, IsPlainHeader, packet_with};
-ghost use Rattle.amr_sender.specs.Plans.{Serves};
+ghost use Rattle.amr_sender.specs.Packets.{BeginsWith, IsPlainHeader, block_limit, packet_with};
 ghost use Rattle.amr_sender.specs.Single.{HasPayload, SendsSingly};
 ghost use Rattle.rtp_packet.specs.Written.{fixed_octets, octets_16, octets_32, packet_of};
+ghost use Rattle.spec_sending.specs.Plans.{IsPlan};
 ghost use Rattle.spec_sending.specs.Sending.{has_speech};
 ghost use Rattle.spec_store.specs.StorageReading.{frame_in, unit_type};
 
@@ -39,13 +39,16 @@ const BITS_AMR_WB: [u16; 16] = [
     132, 177, 253, 285, 317, 365, 397, 461, 477, 40, 0, 0, 0, 0, 0, 0,
 ];
 
-/// Whether each packet of a plan carries one frame, in a bandwidth-efficient payload.
+/// Whether each packet of a plan carries one frame, in a bandwidth-efficient payload, and none is
+/// left out.
 #[inline(always)]
 pub fn is_single(plan: &SendPlan) -> bool
     ensures { IsTrue result ↔ SendsSingly plan.now }
 {
     plan.blocks == 1
         && plan.length == 1
+        && plan.repeat == 0
+        && !plan.skip_empty
         && plan.profile.channels == 1
         && !plan.profile.octet_aligned
 }
@@ -142,7 +145,7 @@ fn put_bits(unit: &[u8], long: bool, out: &mut [u8])
 /// Writes the payload of a frame of so many bits, and tells how many octets it has.
 #[inline(always)]
 fn put_payload(plan: &SendPlan, unit: &[u8], out: &mut [u8]) -> usize
-    requires plan { Serves plan.now }
+    requires plan { IsPlan plan.now }
     requires single { SendsSingly plan.now }
     requires unit { length unit.now ≡ 61 }
     requires room { length out.old ≡ 76 }
@@ -199,9 +202,9 @@ fn header_of(fields: &RtpFields<'_>) -> [u8; PAYLOAD]
 /// Writes the packet of a frame to the front of `out`, and tells how many octets it has.
 #[inline(always)]
 pub fn write_single(plan: &SendPlan, head: Head, unit: &[u8], out: &mut [u8]) -> usize
-    requires plan { Serves plan.now }
+    requires plan { IsPlan plan.now }
     requires single { SendsSingly plan.now }
-    requires first { head.first < 2 ^ 54 }
+    requires first { head.first < block_limit + 2048 }
     requires unit { length unit.now ≡ 61 }
     requires room { length out.old ≡ 76 }
 

@@ -3,7 +3,6 @@ ghost use Rattle.amr_frame.specs.Cells.{frame_of};
 ghost use Rattle.amr_frame.specs.Frames.{IsFrame};
 ghost use Rattle.amr_frame.specs.Tables.{is_reserved};
 ghost use Rattle.amr_frame.specs.declared.codec.Codec.TheVariants.{Amr};
-ghost use Rattle.amr_sender.specs.Plans.{IsPlain};
 
 use crate::{SendPlan, Sender};
 use amr_bits::BitSlice;
@@ -15,7 +14,6 @@ use std::test::Fail;
 
 // A plan of AMR with one channel: so many blocks a packet, and where numbers and timestamps begin.
 fn plan(blocks: u8, seq: u16, ts: u32) -> SendPlan
-    ensures plain { IsPlain result }
     ensures codec { result.profile.codec ≡ Amr }
     ensures channels { result.profile.channels ≡ 1 }
 {
@@ -35,7 +33,6 @@ fn plan(blocks: u8, seq: u16, ts: u32) -> SendPlan
 
 // A plan of groups of at most so many blocks.
 fn grouped(blocks: u8, length: u8, most: u16) -> SendPlan
-    ensures plain { IsPlain result }
     ensures codec { result.profile.codec ≡ Amr }
     ensures channels { result.profile.channels ≡ 1 }
 {
@@ -51,8 +48,20 @@ fn grouped(blocks: u8, length: u8, most: u16) -> SendPlan
     }
 }
 
+// A plan of packets that carry blocks before the new ones again, or that leaves out what is empty.
+fn sending(blocks: u8, repeat: u8, skip_empty: bool) -> SendPlan
+    ensures codec { result.profile.codec ≡ Amr }
+    ensures channels { result.profile.channels ≡ 1 }
+{
+    SendPlan {
+        repeat,
+        skip_empty,
+        ..plan(blocks, 0, 0)
+    }
+}
+
 // A frame whose bits are 0.
-fn zeros(ft: u8) -> Cell
+fn zeros(ft: u8, q: bool) -> Cell
     requires type_exists { ft ≤ 15 }
     requires not_reserved { is_reserved Amr ft ≡ false }
     ensures present { IsTrue result.present }
@@ -61,18 +70,22 @@ fn zeros(ft: u8) -> Cell
     let Some(bits) = BitSlice::of(&[0; 60], 0, bits_of(Codec::Amr, ft)) else {
         unreachable!()
     };
-    Cell::from_bits(Codec::Amr, ft, true, bits)
+    Cell::from_bits(Codec::Amr, ft, q, bits)
 }
 
-// Speech of type 7, a silence descriptor of type 8, or else NO_DATA.
+// Stands for a frame of type 15 with Q = 0.
+const LOST: u8 = 0xFF;
+
+// Speech of type 7, a silence descriptor of type 8, type 15 with Q = 0, or else NO_DATA.
 fn frame(ft: u8) -> Cell
     ensures present { IsTrue result.present }
     ensures frame { IsFrame Amr (frame_of result) }
 {
     match ft {
-        7 => zeros(7),
-        8 => zeros(8),
-        _ => zeros(15),
+        7 => zeros(7, true),
+        8 => zeros(8, true),
+        LOST => zeros(15, false),
+        _ => zeros(15, true),
     }
 }
 
@@ -85,10 +98,9 @@ fn send<P: PacketSink>(
     out: &mut P,
 ) -> Result<Option<u64>, AllocError>
     requires ready { IsTrue (P.ready out.old) }
-    requires plain { IsPlain plan }
     requires codec { plan.profile.codec ≡ Amr }
     requires channels { plan.profile.channels ≡ 1 }
-    requires few { length types.now ≤ 8 }
+    requires few { length types.now ≤ 99 }
 {
     if let Err(_) = plan.check() {
         return Ok(None);
@@ -186,6 +198,180 @@ fn a_front_of_the_packets_is_put_where_there_is_no_room(rt: HostRuntime) -> Resu
             "room {room}"
         );
         assert_eq!(rt; sink.octets().len(), room, "room for {room}");
+    }
+    Ok(())
+}
+
+// A packet by its sequence number, its timestamp in blocks, the first octets of its payload, and
+// how many octets that has; the others are 0.
+type Wanted = (u8, u8, &'static [u8], u8);
+
+// Appends the record of a packet without marker to a log.
+fn append(log: &mut Vec<u8>, wanted: Wanted) -> Result<(), AllocError> {
+    let (seq, blocks, front, size) = wanted;
+    let ts = u16::from(blocks) * 160;
+    log.extend_from_slice(&[0, size.saturating_add(12), 0x80, 0x60, 0, seq, 0, 0])?;
+    log.extend_from_slice(&ts.to_be_bytes())?;
+    log.extend_from_slice(&[1, 2, 3, 4])?;
+    log.extend_from_slice(front)?;
+    for _ in front.len()..usize::from(size).max(front.len()) {
+        log.extend_from_slice(&[0])?;
+    }
+    Ok(())
+}
+
+// Each row: the new blocks of a packet, how many before them it carries again, whether it skips,
+// the types of the blocks, and the packets.
+#[test]
+fn packets_carry_blocks_again_and_leave_out_empty_ones(rt: HostRuntime) -> Result<(), Fail> {
+    let rows: [(u8, u8, bool, &[u8], &[Wanted]); 11] = [
+        (
+            1,
+            0,
+            false,
+            &[8, 15],
+            &[(0, 0, &[0xF4, 0x40], 7), (1, 1, &[0xF7, 0xC0], 2)],
+        ),
+        (
+            1,
+            1,
+            false,
+            &[8, 15, 8],
+            &[
+                (0, 0, &[0xF4, 0x40], 7),
+                (1, 0, &[0xFC, 0x5F], 7),
+                (2, 1, &[0xFF, 0xD1], 7),
+            ],
+        ),
+        (
+            1,
+            2,
+            false,
+            &[15, 15, 15, 8],
+            &[
+                (0, 0, &[0xF7, 0xC0], 2),
+                (1, 0, &[0xFF, 0xDF], 2),
+                (2, 0, &[0xFF, 0xFF, 0x7C], 3),
+                (3, 1, &[0xFF, 0xFF, 0x44], 8),
+            ],
+        ),
+        (
+            1,
+            3,
+            false,
+            &[15, 15, 15, 15, 15],
+            &[
+                (0, 0, &[0xF7, 0xC0], 2),
+                (1, 0, &[0xFF, 0xDF], 2),
+                (2, 0, &[0xFF, 0xFF, 0x7C], 3),
+                (3, 0, &[0xFF, 0xFF, 0xFD, 0xF0], 4),
+                (4, 1, &[0xFF, 0xFF, 0xFD, 0xF0], 4),
+            ],
+        ),
+        (
+            2,
+            1,
+            false,
+            &[8, 15, 15],
+            &[(0, 0, &[0xFC, 0x5F], 7), (1, 1, &[0xFF, 0xDF], 2)],
+        ),
+        (
+            2,
+            3,
+            false,
+            &[15, 15, 15, 15],
+            &[
+                (0, 0, &[0xFF, 0xDF], 2),
+                (1, 0, &[0xFF, 0xFF, 0xFD, 0xF0], 4),
+            ],
+        ),
+        (
+            1,
+            0,
+            true,
+            &[15, 8, 15, 8],
+            &[(0, 1, &[0xF4, 0x40], 7), (1, 3, &[0xF4, 0x40], 7)],
+        ),
+        (
+            1,
+            1,
+            true,
+            &[15, 8, 15, 15],
+            &[(0, 0, &[0xFF, 0xD1], 7), (1, 1, &[0xF4, 0x40], 7)],
+        ),
+        (2, 0, true, &[8, 15, 15], &[(0, 0, &[0xF4, 0x40], 7)]),
+        (1, 3, true, &[15, 15, 15], &[]),
+        (1, 0, true, &[15, LOST, 15], &[(0, 1, &[0xF7, 0x80], 2)]),
+    ];
+    for (blocks, repeat, skip, types, packets) in rows {
+        assert!(rt; types.len() < 9);
+        let mut sink = MemorySink::create(rt.alloc(), 300, 300, &[])?;
+        let mut log = LogWriter::new(&mut sink);
+        assert_eq!(rt;
+            send(rt.alloc(), sending(blocks, repeat, skip), types, &mut log)?,
+            Some(packets.len() as u64)
+        );
+        let mut expected = Vec::new(rt.alloc());
+        for packet in packets {
+            append(&mut expected, *packet)?;
+        }
+        assert_eq!(rt;
+            sink.octets(),
+            expected.as_slice(),
+            "{blocks}, {repeat}, {skip}"
+        );
+    }
+    Ok(())
+}
+
+#[test]
+fn the_marker_goes_by_the_block_before_the_first_one(rt: HostRuntime) -> Result<(), Fail> {
+    let rows: [(u8, bool, &[u8], &[(usize, u8)]); 3] = [
+        // Packets of 2, 33 and 63 octets.
+        (1, false, &[15, 7, 7], &[(3, 0x60), (19, 0x60), (66, 0xE0)]),
+        // The second packet of speech begins behind a block that was left out.
+        (
+            0,
+            true,
+            &[7, 15, 7, 7],
+            &[(3, 0xE0), (49, 0xE0), (95, 0x60)],
+        ),
+        // The block before the second packet was trimmed.
+        (
+            1,
+            true,
+            &[7, 15, 15, 7, 15],
+            &[(3, 0xE0), (49, 0xE0), (95, 0x60), (142, 0xE0)],
+        ),
+    ];
+    for (repeat, skip, types, seconds) in rows {
+        assert!(rt; types.len() < 9);
+        let mut sink = MemorySink::create(rt.alloc(), 300, 300, &[])?;
+        let mut log = LogWriter::new(&mut sink);
+        assert_eq!(rt;
+            send(rt.alloc(), sending(1, repeat, skip), types, &mut log)?,
+            Some(seconds.len() as u64)
+        );
+        // The second octet of each packet: its marker and its payload type.
+        for (at, second) in seconds {
+            assert_eq!(rt; sink.octets().get(*at), Some(second), "octet {at}");
+        }
+    }
+    Ok(())
+}
+
+// 50 frames of speech, a silence descriptor, 7 NO_DATA, a silence descriptor, and 20 of speech.
+#[test]
+fn a_call_has_a_packet_a_block_or_fewer(rt: HostRuntime) -> Result<(), Fail> {
+    let mut types = [7u8; 79];
+    types[50..59].copy_from_slice(&[8, 15, 15, 15, 15, 15, 15, 15, 8]);
+    for (skip, packets) in [(false, 79), (true, 73)] {
+        let mut sink = MemorySink::create(rt.alloc(), 9999, 99, &[])?;
+        let mut log = LogWriter::new(&mut sink);
+        assert_eq!(rt;
+            send(rt.alloc(), sending(1, 1, skip), &types, &mut log)?,
+            Some(packets)
+        );
     }
     Ok(())
 }
@@ -297,7 +483,6 @@ fn headers_of(
     plan: SendPlan,
     heads: &[u8],
 ) -> Result<Option<Vec<[u8; 12]>>, AllocError>
-    requires plain { IsPlain plan }
     requires few { length heads.now ≤ 8 }
 {
     let mut headers = Vec::new(alloc);

@@ -60,7 +60,7 @@ begun_front s m one =
       | false ↦ (rests s m, refl)
     ]
 
-piece_stays : (s : SendPlan) (m k i : ℕ) → i < m / s.blocks → piece_at s m i ≡ piece_at s (m + k) i
+pub piece_stays : (s : SendPlan) (m k i : ℕ) → i < m / s.blocks → piece_at s m i ≡ piece_at s (m + k) i
 piece_stays s m k i l =
     let d = div-mul-le_self m s.blocks in
     let a = mul-le-mul_left s.blocks (let z : i + 1 ≤ m / s.blocks = omega arith in z) in

@@ -41,10 +41,10 @@ packet_stays s b more x i =
     rw m (rw c refl)
 
 -- the packets of portions, of which n packets were sent before
-abbrev packets : SendPlan → List (List Frame) → ℕ → List Portion → List Rattle.spec_packet.specs.Rtp.RtpPacket
+abbrev pub packets : SendPlan → List (List Frame) → ℕ → List Portion → List Rattle.spec_packet.specs.Rtp.RtpPacket
 packets s b n ps = map (packet_of s b) (enumerate_from n (filter (is_sent s b) ps))
 
-packets_stay : (s : SendPlan) (b more : List (List Frame)) (n : ℕ) (ps : List Portion)
+pub packets_stay : (s : SendPlan) (b more : List (List Frame)) (n : ℕ) (ps : List Portion)
     → AllByRecursion (IsPart (length b)) ps → packets s (b ++ more) n ps ≡ packets s b n ps
 packets_stay s b more n [] h = refl
 packets_stay s b more n (p ∷ ps) h =

@@ -1,6 +1,5 @@
 // Files whose frames are sent where they stand, against packets that are written bit by bit.
 ghost use Rattle.std.specs.Prelude.{◌≡◌, ◌<◌, ◌≤◌, ◌^◌, length};
-ghost use Rattle.amr_sender.specs.Plans.{IsPlain};
 
 use crate::{RunEnd, SendPlan, StreamJob, stream_file};
 use amr_frame::{Codec, Profile};
@@ -138,9 +137,7 @@ fn tell(
 }
 
 // A plan of one frame a packet.
-fn plan(codec: Codec) -> SendPlan
-    ensures { IsPlain result }
-{
+fn plan(codec: Codec) -> SendPlan {
     SendPlan {
         cmr: 15,
         pt: 96,

@@ -1,5 +1,4 @@
 ghost use Rattle.std.specs.Prelude.{◌≡◌, ◌≤◌, ◌^◌};
-ghost use Rattle.amr_sender.specs.Plans.{IsPlain};
 
 use crate::{RunEnd, SendPlan, StreamJob, stream_file};
 use amr_frame::{Codec, Profile};
@@ -10,9 +9,7 @@ use std::process::Abort;
 use std::test::Fail;
 
 // A plan of AMR, with so many blocks a packet.
-fn plan(channels: u8, blocks: u8) -> SendPlan
-    ensures { IsPlain result }
-{
+fn plan(channels: u8, blocks: u8) -> SendPlan {
     SendPlan {
         cmr: 15,
         pt: 96,
@@ -52,9 +49,7 @@ fn expect(
     file: &[u8],
     outside: &Outside<'_>,
     wanted: (RunEnd, &[u8], Option<(u64, u64)>),
-) -> Result<(), Fail>
-    requires { IsPlain plan }
-{
+) -> Result<(), Fail> {
     if let Err(_) = plan.check() {
         panic!(rt; "the plan is valid");
     }

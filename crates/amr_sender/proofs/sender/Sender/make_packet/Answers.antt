@@ -1,9 +1,8 @@
 use Rattle.std.proofs.Common.{◌≡◌, ◌+◌, [], ◌∷◌, not, map, sym, ap, ◌∙◌, subst}
 use Rattle.std.specs.Prelude.{◌&&◌}
 use Rattle.amr_frame.specs.Blocks.{frames_of}
-use Rattle.amr_sender.proofs.Singly.{frame_own, made_single, none_held}
+use Rattle.amr_sender.proofs.Singly.{frame_own, made_single, none_held, with_single}
 use Rattle.amr_sender.proofs.Steps.{ready}
-use Rattle.amr_sender.proofs.Taken.{with_sent}
 use Rattle.amr_sender.specs.Held.{held_of}
 use Rattle.amr_sender.specs.Sender.{View, view_of}
 use Rattle.amr_sender.specs.Single.{Makes, SendsSingly}
@@ -29,11 +28,11 @@ returns-clause-made c =
       spoken = c.unit_speaks-speech.result;
       spent = s.spent;
     } in
-    let same : after ≡ with_sent (view_of s) (f ∷ []) = λ i. record {
+    let same : after ≡ with_single (view_of s) f = λ i. record {
       plan = s.plan;
       held = none i;
       blocks = s.blocks + 1;
-      packets = s.packets + sym single.length i;
+      packets = s.packets + 1;
       spoken = c.unit_speaks-speech.ensures i;
       spent = takes.unspent i;
     } in
