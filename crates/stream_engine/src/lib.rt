@@ -11,6 +11,7 @@ mod turns;
 
 pub use job::StreamJob;
 pub use run_report::{Counts, RunEnd, RunReport};
+pub use send::{send_block, send_rest};
 pub use spec_sending::SendPlan;
 pub use stream::stream_file;
 

@@ -1,5 +1,5 @@
 // Blocks sent as a log of packets.
-ghost use Rattle.std.specs.Prelude.{◌≡◌, OnErr, OnOk, false};
+ghost use Rattle.std.specs.Prelude.{◌≡◌, OnErr, OnOk, false, true};
 ghost use Rattle.amr_frame.specs.Blocks.{IsPresentBlock, frames_of};
 ghost use Rattle.amr_io.specs.Steps.{SinkStep};
 ghost use Rattle.amr_sender.specs.Sender.{TakesBlock};
@@ -14,7 +14,7 @@ use rtp_packet::LogWriter;
 ///
 /// `Failed` comes only where the output's faults rose. A front of the record was then written, and
 /// the sender is spent.
-pub(crate) fn send_block<O: Sink>(
+pub fn send_block<O: Sink>(
     sender: &mut Sender,
     cells: &[Cell],
     output: &mut O,
@@ -27,6 +27,8 @@ pub(crate) fn send_block<O: Sink>(
         (O.got output.old) (O.got output.new)) }
     ensures part { OnErr result (SendsBlockPart sender.old (frames_of cells.now)
         (O.got output.old) (O.got output.new)) }
+    ensures unspent { OnOk result (sender.new.spent ≡ false) }
+    ensures spent { OnErr result (sender.new.spent ≡ true) }
     ensures plan { sender.new.plan ≡ sender.old.plan }
     ensures step { SinkStep O.Sink output.old output.new result }
 {
@@ -37,13 +39,15 @@ pub(crate) fn send_block<O: Sink>(
 /// Sends the blocks that are left of a stream, where there are any, and ends the sender.
 ///
 /// `Failed` comes only where the output's faults rose. A front of their record was then written.
-pub(crate) fn send_rest<O: Sink>(sender: &mut Sender, output: &mut O) -> Result<(), Failed>
+pub fn send_rest<O: Sink>(sender: &mut Sender, output: &mut O) -> Result<(), Failed>
     requires unspent { sender.old.spent ≡ false }
 
     ensures sent { OnOk result (SendsRest sender.old sender.new
         (O.got output.old) (O.got output.new)) }
     ensures part { OnErr result (SendsRestPart sender.old
         (O.got output.old) (O.got output.new)) }
+    ensures spent { sender.new.spent ≡ true }
+    ensures plan { sender.new.plan ≡ sender.old.plan }
     ensures step { SinkStep O.Sink output.old output.new result }
 {
     let mut log = LogWriter::new(output);
