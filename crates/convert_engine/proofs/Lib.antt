@@ -1,0 +1,4 @@
+pub mod Steps
+pub mod Came
+pub mod Bounds
+pub mod Heard

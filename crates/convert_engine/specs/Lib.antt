@@ -1,0 +1,4 @@
+pub mod Jobs
+pub mod BlockSending
+pub mod BlockLaws
+pub mod Converts
