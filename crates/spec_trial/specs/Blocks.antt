@@ -22,11 +22,11 @@ sid_type Amr = 8
 sid_type AmrWb = 9
 
 -- the octets of a frame, a draw of 256 for each
-abbrev octets_drawn : ℕ → ℕ → List ℕ
+abbrev pub octets_drawn : ℕ → ℕ → List ℕ
 octets_drawn x n = map (λ i. drawn (after x (i + 1)) 256) (range_with_len 0 n)
 
 -- a frame of this type and Q, from the state before its octets
-abbrev frame_drawn : Codec → ℕ → Bool → ℕ → Made
+abbrev pub frame_drawn : Codec → ℕ → Bool → ℕ → Made
 frame_drawn codec ft q x = record {
   frames = record {
     ft = ft;
@@ -37,11 +37,11 @@ frame_drawn codec ft q x = record {
 }
 
 -- a frame of speech, from the state before its mode
-abbrev speech_drawn : Codec → Bool → ℕ → Made
+abbrev pub speech_drawn : Codec → Bool → ℕ → Made
 speech_drawn codec q x = frame_drawn codec (drawn (next x) (length (all_modes codec))) q (next x)
 
 -- what a draw of 16 says a frame is, from the state after that draw
-abbrev frame_of_draw : Codec → ℕ → ℕ → Made
+abbrev pub frame_of_draw : Codec → ℕ → ℕ → Made
 frame_of_draw codec x n =
     cond (nat_eq n 13) (frame_drawn codec (sid_type codec) true x)
     (cond (nat_eq n 14) (record { frames = no_data ∷ []; state = x })
@@ -52,15 +52,21 @@ abbrev pub frame_made : Codec → ℕ → Made
 frame_made codec x = frame_of_draw codec (next x) (drawn (next x) 16)
 
 -- frames and one more
-abbrev one_more : Codec → Made → ℕ → Made
+abbrev pub one_more : Codec → Made → ℕ → Made
 one_more codec m k = let f = frame_made codec m.state in
     record { frames = m.frames ++ f.frames; state = f.state }
 
+-- nothing was made yet, and this is the state of the generator
+abbrev pub none_made : ℕ → Made
+none_made x = record { frames = []; state = x }
+
+-- so many frames more
+abbrev pub made_from : Codec → Made → ℕ → Made
+made_from codec m n = fold (one_more codec) m (range_with_len 0 n)
+
 -- so many frames
 abbrev pub frames_made : Codec → ℕ → ℕ → List Frame
-frames_made codec seed n =
-    let none : Made = record { frames = []; state = seed } in
-    (fold (one_more codec) none (range_with_len 0 n)).frames
+frames_made codec seed n = (made_from codec (none_made seed) n).frames
 
 -- so many blocks: in each, the channels in order
 abbrev pub blocks_made : Codec → ℕ → ℕ → ℕ → List (List Frame)

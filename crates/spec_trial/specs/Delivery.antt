@@ -16,10 +16,16 @@ pub data Fate : Type 0 where
 abbrev pub fate_of : ℕ → Fate
 fate_of n = cond (nat_eq n 0) Lost (cond (nat_eq n 1) Twice (cond (nat_eq n 2) Held Once))
 
--- the fates of so many packets: the generator begins one past the seed
+-- where the generator of the delivery begins: one past the seed
+abbrev pub delivery_seed : ℕ → ℕ
+delivery_seed seed = (seed + 1) % 2 ^ 64
+
+-- the fate of packet i, and those of so many packets
+abbrev pub fate_at : ℕ → ℕ → Fate
+fate_at seed i = fate_of (drawn (after (delivery_seed seed) (i + 1)) 16)
+
 abbrev pub fates : ℕ → ℕ → List Fate
-fates seed n = map (λ i. fate_of (drawn (after ((seed + 1) % 2 ^ 64) (i + 1)) 16))
-    (range_with_len 0 n)
+fates seed n = map (fate_at seed) (range_with_len 0 n)
 
 -- what was delivered, what is held, and how many were lost, delivered twice, and put on hold
 pub record Line (X : Type 0) : Type 0 where
@@ -30,7 +36,7 @@ pub record Line (X : Type 0) : Type 0 where
   pub held : ℕ
 
 -- these packets are delivered, and behind them the one that is held
-abbrev past : {X : Type 0} → Line X → List X → Line X
+abbrev pub past : {X : Type 0} → Line X → List X → Line X
 past line xs = record line {
   delivered = line.delivered ++ xs ++ option_to_list line.waiting;
   waiting = None;
@@ -45,9 +51,14 @@ with_fate line x Held = elim line.waiting [
   | Some y ↦ past line (x ∷ [])
 ]
 
--- packets with these fates, in order
+-- nothing was given to the line yet
+abbrev pub fresh_line : {X : Type 0} → Line X
+fresh_line = record { delivered = []; waiting = None; lost = 0; doubled = 0; held = 0 }
+
+-- packets with these fates, in order, where more may follow
+abbrev pub on_line : {X : Type 0} → List X → List Fate → Line X
+on_line xs fs = fold (λ line p. with_fate line p.0 p.1) fresh_line (zip xs fs)
+
+-- packets with these fates, in order, and no more
 abbrev pub delivery : {X : Type 0} → List X → List Fate → Line X
-delivery {X} xs fs =
-    let none : Line X =
-    record { delivered = []; waiting = None; lost = 0; doubled = 0; held = 0 } in
-    past (fold (λ line p. with_fate line p.0 p.1) none (zip xs fs)) []
+delivery xs fs = past (on_line xs fs) []
