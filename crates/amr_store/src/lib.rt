@@ -9,11 +9,12 @@ mod reader;
 mod step;
 mod writer;
 
+pub use frame::write_frame;
 pub use front::{MOST_UNIT, UnitAhead};
 pub use reader::StoreReader;
 pub use spec_store::StoreRefusal;
 pub use step::Step;
-pub use writer::{Stage, StoreWriter, write_cells};
+pub use writer::{Stage, StoreWriter, magic, multichannel_magic, write_cells};
 
 #[cfg(test)]
 mod reader_tests;

@@ -96,7 +96,7 @@ fn write_header<O: Sink>(codec: Codec, channels: u8, sink: &mut O) -> Result<(),
 }
 
 /// The magic number of a file of one channel.
-pub(crate) fn magic(codec: Codec) -> &'static [u8]
+pub fn magic(codec: Codec) -> &'static [u8]
     ensures { result.now ≡ header codec 1 }
 {
     match codec {
@@ -106,7 +106,7 @@ pub(crate) fn magic(codec: Codec) -> &'static [u8]
 }
 
 /// The magic number of a file of several channels.
-pub(crate) fn multichannel_magic(codec: Codec) -> &'static [u8]
+pub fn multichannel_magic(codec: Codec) -> &'static [u8]
     ensures { result.now ≡ multi codec }
 {
     match codec {
