@@ -12,3 +12,4 @@ pub use record::record_log;
 pub use record_hearing::RecordJob;
 pub use run_report::{Counts, RunEnd, RunReport};
 pub use stream_engine::{StreamJob, stream_file};
+pub use trial_engine::{Draws, TrialJob, run_trial};

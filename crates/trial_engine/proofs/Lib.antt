@@ -1,0 +1,9 @@
+pub mod Making
+pub mod Rows
+pub mod Summed
+pub mod Taped
+pub mod Lined
+pub mod Few
+pub mod Ran
+pub mod Worked
+pub mod Told

@@ -1,0 +1,12 @@
+pub mod Made
+pub mod Sums
+pub mod Props
+pub mod Tapes
+pub mod Waiting
+pub mod Fates
+pub mod Counted
+pub mod Lines
+pub mod Outcomes
+pub mod Jobs
+pub mod Unread
+pub mod Running
