@@ -7,6 +7,7 @@ mod recorder;
 mod tests;
 
 pub use answer_engine::{AnswerJob, Wanted, answer_offer};
+pub use convert_engine::{ConvertJob, convert_log};
 pub use list_engine::{ListJob, ModeSet, list_log};
 pub use record::record_log;
 pub use record_hearing::RecordJob;

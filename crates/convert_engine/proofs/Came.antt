@@ -1,10 +1,11 @@
 -- What a sender of blocks put out of the blocks that were put to it.
-use Rattle.std.proofs.Common.{◌≡◌, ◌⊎◌, inl, inr, ℕ, ◌<◌, ◌+◌, ◌*◌, ◌^◌, List, [], ◌∷◌, ◌++◌, length, ap, ◌∙◌, sym, refl, subst, append_assoc, Option, arith}
+use Rattle.std.proofs.Common.{◌≡◌, ◌⊎◌, inl, inr, ℕ, ◌<◌, ◌+◌, List, [], ◌∷◌, ◌++◌, length, ap, ◌∙◌, sym, refl, subst, append_assoc, Option, arith}
 use Rattle.std.proofs.lemmas.List.{append-nil, length-append}
 use Rattle.amr_frame.specs.Blocks.{GotAtMostPart, GotBlocks}
 use Rattle.amr_frame.specs.Frames.{Frame}
 use Rattle.amr_io.specs.declared.sink.Sink as sink
 use Rattle.amr_playout.specs.Gains.{Gains, GainsPart}
+use Rattle.amr_sender.specs.Packets.{block_limit}
 use Rattle.amr_sender.specs.Sender.{StandsFor, TakesBlock}
 use Rattle.convert_engine.specs.BlockSending as block
 use Rattle.convert_engine.specs.declared.block_sender.BlockSender.{BlockSender}
@@ -15,7 +16,7 @@ use Rattle.spec_sending.specs.declared.plan.SendPlan.{SendPlan}
 use Rattle.spec_stream.specs.Streaming.{begun_log}
 
 -- a front of few is few
-fewer : (b front rest all : ℕ) → all ≡ b + (front + rest) → all < 3 * 2 ^ 54 → b + front < 3 * 2 ^ 54
+fewer : (b front rest all : ℕ) → all ≡ b + (front + rest) → all < block_limit → b + front < block_limit
 fewer b front rest all parts few = omega (arith, parts, few)
 
 module _ {O : Type 0} (k : sink.Ghosts O) where
@@ -93,13 +94,13 @@ module _ {O : Type 0} (k : sink.Ghosts O) where
 
   -- where there is room for all of them, all were sent
   whole : (s t : BlockSender O) (b blocks : List (List Frame)) (c : Came s t b blocks)
-      → length (b ++ blocks) < 3 * 2 ^ 54 → c.front ≡ blocks
+      → length (b ++ blocks) < block_limit → c.front ≡ blocks
   whole s t b blocks c few = elim c.full [
     | inl e ↦ sym (c.split ∙ ap (λ r. c.front ++ r) e ∙ append-nil c.front)
     | inr full ↦
         absurd (full (record {
           unspent = c.stands.unspent;
-          few = subst (λ n. n < 3 * 2 ^ 54) (sym (c.stands.blocks ∙ length-append b c.front))
+          few = subst (λ n. n < block_limit) (sym (c.stands.blocks ∙ length-append b c.front))
               (fewer (length b) (length c.front) (length c.rest) (length (b ++ blocks))
               (length-append b blocks ∙ ap (λ n. length b + n) (ap length c.split ∙ length-append c.front c.rest))
               few);
@@ -162,11 +163,11 @@ module _ {O : Type 0} (k : sink.Ghosts O) where
     pub out : Puts (got s) (got t) (begun_log (plan_in s) less) (begun_log (plan_in s) more)
 
   pub gained : (s t : BlockSender O) (less more : List (List Frame)) → StandsFor s.sender.now less
-      → Gains (block.Puts k) s t less more → length more < 3 * 2 ^ 54 → Sent s t less more
+      → Gains (block.Puts k) s t less more → length more < block_limit → Sent s t less more
   gained s t less more stands g few =
       let c = came s g.blocks t less stands g.got in
       let all : less ++ c.front ≡ more =
-      ap (λ l. less ++ l) (whole s t less g.blocks c (subst (λ l. length l < 3 * 2 ^ 54) g.more_by few))
+      ap (λ l. less ++ l) (whole s t less g.blocks c (subst (λ l. length l < block_limit) g.more_by few))
       ∙ sym g.more_by in
       record {
         stands = subst (StandsFor t.sender.now) all c.stands;

@@ -1,7 +1,8 @@
 -- What came of a record, and of the end, where the blocks were put to a sender of blocks.
-use Rattle.std.proofs.Common.{◌≡◌, ◌<◌, ◌*◌, ◌^◌, ℕ, List, [], ◌∷◌, ◌++◌, length, ap, ◌∙◌, sym, subst, Option, true, false, not}
+use Rattle.std.proofs.Common.{◌≡◌, ◌<◌, ℕ, List, [], ◌∷◌, ◌++◌, length, ap, ◌∙◌, sym, subst, Option, true, false, not}
 use Rattle.amr_io.specs.declared.sink.Sink as sink
 use Rattle.amr_playout.specs.Gains.{Gains, GainsPart}
+use Rattle.amr_sender.specs.Packets.{block_limit}
 use Rattle.amr_sender.specs.Sender.{StandsFor, View}
 use Rattle.convert_engine.specs.BlockSending as block
 use Rattle.convert_engine.specs.Converts.{Closes, ClosesPart, Converts, ConvertsPart, Releases, ReleasesPart, Stands}
@@ -34,7 +35,7 @@ module _ {O : Type 0} (k : sink.Ghosts O) (s t : BlockSender O) (l l' : Listener
       → Sent k s t (gone_among l.job records) (gone_among l.job (records ++ octets ∷ []))
   sent_on octets job h records stands =
       let longer = records ++ octets ∷ [] in
-      let few = subst (λ (j : RecordJob). length (gone_among j longer) < 3 * 2 ^ 54) job
+      let few = subst (λ (j : RecordJob). length (gone_among j longer) < block_limit) job
       (few_gone l' longer h.going (h.stands records stands.heard)) in
       gained k s t (gone_among l.job records) (gone_among l.job longer) stands.sends
       (h.out records stands.heard) few

@@ -30,7 +30,8 @@ counted l v = record (counted_in_all l.tally l.receiver.counts) { sent = v.packe
 -- a record more was heard, and the packets that are begun by what goes out on it were put out
 pub record Converts (l l' : Listener) (v v' : View) (octets : List ℕ)
     (got got' : Option (List ℕ)) : Type 0 where
-  pub stands : (records : List (List ℕ)) → Stands l v records → Stands l' v' (records ++ octets ∷ [])
+  pub stands : (records : List (List ℕ)) → Stands l v records
+      → Stands l' v' (records ++ octets ∷ [])
   pub out : (records : List (List ℕ)) → Stands l v records
       → Puts got got' (begun_log v.plan (gone_among l.job records))
       (begun_log v.plan (gone_among l.job (records ++ octets ∷ [])))

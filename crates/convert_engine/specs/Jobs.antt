@@ -1,7 +1,6 @@
 -- What a job asks, what it means, and which jobs are served.
 use Rattle.std.specs.Prelude.{◌≡◌, ◌≤◌, ◌^◌}
 use Rattle.amr_playout.specs.Plans.{IsPlan}
-use Rattle.amr_sender.specs.Plans.{IsPlain}
 use Rattle.convert_engine.specs.declared.job.ConvertJob.{ConvertJob}
 use Rattle.record_hearing.specs.Jobs.{recording_of}
 use Rattle.record_hearing.specs.declared.job.RecordJob.{RecordJob}
@@ -24,11 +23,10 @@ pub record CanSend (heard : RecordJob) (to : SendPlan) : Type 0 where
   pub codec : to.profile.codec ≡ heard.plan.profile.codec
   pub channels : to.profile.channels ≡ heard.plan.profile.channels
 
--- the jobs that are served: those of two valid plans of one codec and as many channels, the second
--- one that the sender takes, and of at most 2^40 octets
+-- the jobs that are served: those of two valid plans of one codec and as many channels, and of at
+-- most 2^40 octets
 pub record IsServed (job : ConvertJob) : Type 0 where
   pub plan : IsPlan job.plan
   pub sends : CanSend (hearing_of job) job.to
-  pub plain : IsPlain job.to
   pub some : 1 ≤ job.limit
   pub most : job.limit ≤ 2 ^ 40

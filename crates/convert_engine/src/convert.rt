@@ -22,13 +22,13 @@ const GATHERED: usize = 65536;
 /// again, as the job's other plan says.
 ///
 /// The blocks go from the receiver to the sender as they are released, and a gap between them is
-/// filled with NO_DATA. All memory is taken before the first read; `OutOfMemory` comes only for want
-/// of it. `Done` comes where the whole log was read, `LimitReached` where it has more octets than the
-/// limit, `LogCut` where it ends inside a record: what is released of the whole records before is
-/// sent all the same. `ReadFault` comes only where the input's faults rose, `WriteFault` only where
-/// the output's did, and the run ends there. What waits is written before each read, so that at a
-/// read fault all is out that no further record changes. The counts are those of the records and the
-/// packets sent, at each end but a fault and want of memory.
+/// filled with NO_DATA. All memory is taken before the first read; `OutOfMemory` comes only for
+/// want of it. `Done` comes where the whole log was read, `LimitReached` where it has more octets
+/// than the limit, `LogCut` where it ends inside a record: what is released of the whole records
+/// before is sent all the same. `ReadFault` comes only where the input's faults rose, `WriteFault`
+/// only where the output's did, and the run ends there. What waits is written before each read, so
+/// that at a read fault all is out that no further record changes. The counts are those of the
+/// records and the packets sent, at each end but a fault and want of memory.
 pub fn convert_log<I: Source, O: Sink>(
     alloc: Global,
     job: &ConvertJob,

@@ -130,8 +130,6 @@ fn expect(
     job.limit = job.limit.clamp(1, 1 << 40);
     job.to.profile.codec = job.plan.profile.codec;
     job.to.profile.channels = job.plan.profile.channels;
-    job.to.repeat = 0;
-    job.to.skip_empty = false;
     if let Err(_) = job.plan.check() {
         panic!(rt; "the plan is valid");
     }
@@ -245,6 +243,27 @@ fn blocks_go_into_groups(rt: HostRuntime) -> Result<(), Fail> {
         ],
         (0, 5, 3),
     )
+}
+
+// The record of the packet that carries block 0 again and block 1.
+const BOTH: (&[u8], u16) = (
+    &[
+        0, 77, 0x80, 0xE0, 0, 1, 0, 0, 0, 0, 0, 0, 0, 0, 0xF0, 0xBC, 0x3C,
+    ],
+    62,
+);
+
+#[test]
+fn blocks_are_sent_again_and_gaps_left_out(rt: HostRuntime) -> Result<(), Fail> {
+    let mut again = job_of(256, aligned(None), 1);
+    again.to.repeat = 1;
+    let next = [(0u8, 0u32, SEVEN), (1, 160, SEVEN)];
+    expect_all(&rt, &again, &next, &[FIRST, BOTH], (0, 2, 2))?;
+    // Blocks 1 and 2 are NO_DATA, and packets of these alone aren't sent.
+    let mut skipping = job_of(256, aligned(None), 1);
+    skipping.to.skip_empty = true;
+    let apart = [(0u8, 0u32, SEVEN), (1, 480, SEVEN)];
+    expect_all(&rt, &skipping, &apart, &[FIRST, LAST], (0, 4, 2))
 }
 
 #[test]

@@ -1,7 +1,6 @@
 -- What a trial is asked to do, and what it means. This project's own.
 use Rattle.std.specs.Prelude.{None}
 use Rattle.amr_playout.specs.Plans.{IsPlan as IsReceiving, rules_in}
-use Rattle.amr_sender.specs.Plans.{IsPlain}
 use Rattle.record_hearing.specs.declared.job.RecordJob.{RecordJob}
 use Rattle.spec_sending.specs.Plans.{IsPlan as IsSending}
 use Rattle.spec_trial.specs.Trials.{Trial, trial_meaning}
@@ -29,4 +28,3 @@ trying_meaning job = trial_meaning (trial_of job)
 pub record IsServed (job : TrialJob) : Type 0 where
   pub receiving : IsReceiving job.plan
   pub sending : IsSending job.send
-  pub plain : IsPlain job.send

@@ -1,5 +1,5 @@
 // The blocks of a trial.
-ghost use Rattle.std.specs.Prelude.{◌≡◌, length};
+ghost use Rattle.std.specs.Prelude.{length};
 ghost use Rattle.trial_engine.specs.Made.{MakesBlock};
 
 use crate::draws::Draws;

@@ -1,5 +1,5 @@
 // What is kept of a storage file that is written nowhere: how many octets it has, and their sum.
-ghost use Rattle.std.specs.Prelude.{◌≡◌, ◌+◌, ◌≤◌, ◌%◌, ◌^◌, Bool, Ok, sum, true};
+ghost use Rattle.std.specs.Prelude.{◌≡◌, ◌+◌, ◌≤◌, ◌%◌, ◌^◌, Ok, sum, true};
 ghost use Rattle.std.specs.List.{AllByRecursion};
 ghost use Rattle.amr_store.specs.Written.{AreChannels};
 ghost use Rattle.spec_store.specs.StorageFile.{header};
@@ -82,7 +82,6 @@ impl FileSum {
 }
 
 impl BlockSink for FileSum {
-    ghost use Rattle.amr_io.specs.Fault.{HasCause};
     ghost use Rattle.trial_engine.specs.Sums.{AddsBlock};
 
     ghost codec = { λ f. f.codec };

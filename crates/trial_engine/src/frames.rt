@@ -1,7 +1,5 @@
 // The frames of a trial.
-ghost use Rattle.std.specs.Prelude.{◌≡◌, ◌≤◌, ◌<◌, ◌∷◌, [], Bool, IsTrue, false, length, not, nat_eq};
-ghost use Rattle.amr_frame.specs.Cells.{frame_of};
-ghost use Rattle.amr_frame.specs.Frames.{IsFrame};
+ghost use Rattle.std.specs.Prelude.{◌≡◌, ◌≤◌, ◌<◌, false, length};
 ghost use Rattle.amr_frame.specs.Tables.{is_reserved};
 ghost use Rattle.spec_modes.specs.ModeSets.{all_modes};
 ghost use Rattle.spec_trial.specs.Blocks.{frame_drawn, frame_made, octets_drawn, sid_type, speech_drawn};

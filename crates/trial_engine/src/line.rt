@@ -1,7 +1,5 @@
 // The lossy line.
-ghost use Rattle.std.specs.Prelude.{◌≡◌, ◌+◌, ◌*◌, ◌≤◌, ◌^◌, [], cond, false, not, true};
-ghost use Rattle.record_hearing.specs.Going.{IsServedBy};
-ghost use Rattle.spec_trial.specs.Delivery.{delivery_seed};
+ghost use Rattle.std.specs.Prelude.{◌≡◌, [], cond, false, not, true};
 ghost use Rattle.trial_engine.specs.Counted.{AreFew};
 
 use crate::draws::Draws;

@@ -1,5 +1,5 @@
 // A run of a trial: its blocks are made and sent, and what is delivered is recorded.
-ghost use Rattle.std.specs.Prelude.{◌≡◌, ◌+◌, ◌≤◌, ◌<◌, ◌^◌, []};
+ghost use Rattle.std.specs.Prelude.{◌≡◌, ◌+◌, ◌<◌, ◌^◌, []};
 ghost use Rattle.amr_frame.specs.Blocks.{IsPresentBlock, frames_of};
 ghost use Rattle.spec_trial.specs.Trials.{blocks_of};
 ghost use Rattle.trial_engine.specs.Jobs.{IsServed, recording_job, trial_of};

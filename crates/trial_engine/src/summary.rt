@@ -1,5 +1,5 @@
 // The summary of a trial: three lines.
-ghost use Rattle.std.specs.Prelude.{◌≡◌, ◌+◌, ◌≤◌, ◌++◌, codes, decimal, length};
+ghost use Rattle.std.specs.Prelude.{◌≡◌, ◌+◌, ◌≤◌, ◌++◌, decimal, length};
 ghost use Rattle.arrayvec.specs.ArrayString.{array_string_len};
 ghost use Rattle.run_report.specs.Lines.{record_line};
 ghost use Rattle.run_report.specs.Written.{Writes};

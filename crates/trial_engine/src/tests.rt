@@ -45,9 +45,6 @@ fn run(
     if let Err(_) = job.send.check() {
         panic!(rt; "the blocks can be sent");
     }
-    if job.send.repeat != 0 || job.send.skip_empty {
-        panic!(rt; "the sender takes the plan");
-    }
     let mut output = MemorySink::create(rt.alloc(), 999, 999, failing)?;
     let report = run_trial(rt.alloc(), job, &mut output);
     assert_eq!(rt; report.end, wanted);
@@ -93,8 +90,12 @@ fn a_front_of_the_summary_is_written_where_a_write_fails(rt: HostRuntime) -> Res
 
 #[test]
 fn the_same_number_gives_the_same_summary(rt: HostRuntime) -> Result<(), Fail> {
-    let first = run(&rt, &job_of(10_000, 7), &[], RunEnd::Done)?;
-    let again = run(&rt, &job_of(10_000, 7), &[], RunEnd::Done)?;
-    assert_eq!(rt; first.as_slice(), again.as_slice());
+    for repeat in [0u8, 1] {
+        let mut job = job_of(10_000, 7);
+        job.send.repeat = repeat;
+        let first = run(&rt, &job, &[], RunEnd::Done)?;
+        let again = run(&rt, &job, &[], RunEnd::Done)?;
+        assert_eq!(rt; first.as_slice(), again.as_slice());
+    }
     Ok(())
 }

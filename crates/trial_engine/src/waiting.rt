@@ -1,6 +1,5 @@
 // The packet that is held.
-ghost use Rattle.std.specs.Prelude.{◌≡◌, ◌+◌, ◌≤◌, ◌<◌, ◌^◌, IfOk, IsSome, IsTrue, None, Some, length, option_to_list, take};
-ghost use Rattle.std.specs.Prelude.{◌↔◌};
+ghost use Rattle.std.specs.Prelude.{◌≡◌, ◌↔◌, ◌≤◌, ◌<◌, ◌^◌, IfOk, IsSome, IsTrue, None, Some, length, option_to_list, take};
 ghost use Rattle.trial_engine.specs.Tapes.{Delivers};
 
 use crate::tape::Tape;
