@@ -1,16 +1,16 @@
 -- Which plans of receivers are valid, as the definitions of the words say it.
 use Rattle.std.proofs.Common.{◌≡◌, ℕ, max, Bool, true, false, ◌&&◌, ◌||◌, ◌<◌, ◌≤◌, nat_eq, nat_le, nat_lt, [], ◌∷◌, Option, None, Some, is_none, option_map, unwrap_or, refl, ap, sym, ◌∙◌, inl, inr, arith, ne_eqb, le-leb, leb-true, ltb-true, lt-ltb}
 use Rattle.std.proofs.lemmas.Bool.{and_parts}
-use Rattle.amr_cli.specs.Jobs.{job_in}
-use Rattle.amr_cli.specs.declared.job.Job.TheVariants.{RecordLog}
+use Rattle.amr_cli.specs.Jobs.{received_by}
 use Rattle.amr_frame.specs.First.{first, when}
 use Rattle.amr_frame.specs.Profiles.{group_bound, profile_fault}
 use Rattle.amr_frame.specs.declared.profile.ProfileFault.{ProfileFault}
-use Rattle.record_hearing.specs.declared.job.RecordJob.{RecordJob}
 use Rattle.amr_playout.specs.Plans.{most_together, plan_fault}
+use Rattle.amr_playout.specs.declared.plan.Plan.{Plan}
 use Rattle.amr_playout.specs.declared.plan.PlanFault.{PlanFault}
 use Rattle.amr_playout.specs.declared.plan.PlanFault.TheVariants as fault
-use Rattle.spec_jobs.specs.Jobs.{if_valid}
+use Rattle.spec_jobs.specs.Plans.{is_receivable}
+use Rattle.spec_record.specs.Recording.{Recording}
 
 not_over : (a b : ℕ) → b ≤ a → nat_lt a b ≡ false
 not_over a b h = by_value (nat_lt a b) refl
@@ -53,11 +53,28 @@ never : (b : Bool) → (b ≡ true → ⊥) → b ≡ false
 never true h = absurd (h refl)
 never false h = refl
 
--- there is no job of a recording whose plan isn't valid
-pub refused : (job : RecordJob) (why : PlanFault) → job.plan.window ≤ 4096 → 1 ≤ job.plan.reach → job.plan.reach ≤ 45000
-    → plan_fault job.plan ≡ Some why → None ≡ if_valid (job_in (RecordLog job))
-refused job why w low high e =
-    let p = job.plan in let f = p.profile in
-    let fails = never (holds_by (profile_fault f) f.max_blocks (group_bound f.interleaving) p.window) (λ holds.
-    not_valid (plan_fault p) why e (valid (profile_fault f) f.max_blocks (group_bound f.interleaving) p.window p.reach w low high holds)) in
-    sym (ap (λ b. when b (job_in (RecordLog job))) fails)
+-- what a plan that isn't valid records may not be received
+pub refused : (p : Plan) (pt : Option ℕ) (why : PlanFault) → p.window ≤ 4096 → 1 ≤ p.reach → p.reach ≤ 45000
+    → plan_fault p ≡ Some why → is_receivable (received_by pt p) ≡ false
+refused p pt why w low high e =
+    let f = p.profile in
+    never (holds_by (profile_fault f) f.max_blocks (group_bound f.interleaving) p.window) (λ holds.
+    not_valid (plan_fault p) why e (valid (profile_fault f) f.max_blocks (group_bound f.interleaving) p.window p.reach w low high holds))
+
+-- whether there is a value, and which, by whether there is another
+pub none_by : {A : Type 0} (b : Bool) (x : A) → None ≡ when b x → b ≡ false
+none_by true x e = absurd cc
+none_by false x e = refl
+
+pub some_by : {A : Type 0} (b : Bool) (x y : A) → Some y ≡ when b x → (b ≡ true) × (y ≡ x)
+some_by true x y e = (refl, cc)
+some_by false x y e = absurd cc
+
+-- there is no recording where there is no plan, and the one of the plan where there is one
+pub no_recording : (o : Option Plan) (pt : Option ℕ) (r : Recording) → o ≡ None
+    → option_map (received_by pt) o ≡ when (is_receivable r) r → is_receivable r ≡ false
+no_recording o pt r was e = none_by (is_receivable r) r (sym (ap (option_map (received_by pt)) was) ∙ e)
+
+pub a_recording : (o : Option Plan) (pt : Option ℕ) (r : Recording) (p : Plan) → o ≡ Some p
+    → option_map (received_by pt) o ≡ when (is_receivable r) r → (is_receivable r ≡ true) × (received_by pt p ≡ r)
+a_recording o pt r p was e = some_by (is_receivable r) r (received_by pt p) (sym (ap (option_map (received_by pt)) was) ∙ e)

@@ -5,7 +5,7 @@ ghost use Rattle.amr_cli.specs.Runs.{SameSink};
 ghost use Rattle.spec_run.specs.Meanings.{Works, work_of};
 
 use crate::job::Job;
-use amr_gateway::{answer_offer, list_log, record_log, stream_file};
+use amr_gateway::{answer_offer, convert_log, list_log, record_log, run_trial, stream_file};
 use amr_io::{Sink, Source};
 use run_report::{CountLines, RunEnd, RunReport};
 use std::alloc::Global;
@@ -28,8 +28,10 @@ pub fn run_engine<I: Source, O: Sink>(
     match job {
         Job::RecordLog(job) => record_log(alloc, job, input, output),
         Job::StreamFile(job) => stream_file(alloc, job, input, output),
+        Job::ConvertLog(job) => convert_log(alloc, job, input, output),
         Job::AnswerOffer(job) => answer_offer(alloc, job, input, output),
         Job::ListLog(job) => list_log(alloc, job, input, output),
+        Job::RunTrial(job) => run_trial(alloc, job, output),
     }
 }
 
@@ -40,7 +42,8 @@ pub fn noted_lines(job: &Job) -> CountLines
     match job {
         Job::RecordLog(_) => CountLines::Recording,
         Job::StreamFile(_) => CountLines::Sending,
+        Job::ConvertLog(_) => CountLines::Converting,
         Job::AnswerOffer(_) => CountLines::Answering,
-        Job::ListLog(_) => CountLines::None,
+        Job::ListLog(_) | Job::RunTrial(_) => CountLines::None,
     }
 }

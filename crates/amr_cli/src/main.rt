@@ -1,9 +1,11 @@
 //! Records packet logs of AMR and AMR-WB speech as storage files, sends such files as packet logs,
-//! answers offers of such speech, and lists logs.
+//! converts packet logs, answers offers of such speech, lists logs, and makes trial runs.
 #![tactic(auto)]
 
 #[cfg(test)]
 mod answer_tests;
+#[cfg(test)]
+mod convert_tests;
 mod engine;
 #[cfg(test)]
 mod fault_tests;
@@ -21,6 +23,8 @@ mod stream_tests;
 mod test_logs;
 #[cfg(test)]
 mod tests;
+#[cfg(test)]
+mod trial_tests;
 
 use crate::host::run_started;
 use amr_io::{ReadSource, WriteSink};

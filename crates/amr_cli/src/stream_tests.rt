@@ -143,6 +143,122 @@ fn groups_are_interleaved(rt: HostRuntime) -> Result<(), Fail> {
     )
 }
 
+// Frames of AMR in a file: speech of mode 7, a descriptor of silence, and none.
+const SPEECH: Parts<'_> = &[(&[0x3C], 31)];
+
+const SILENCE: Parts<'_> = &[(&[0x44], 5)];
+
+const NOTHING: Parts<'_> = &[(&[0x7C], 0)];
+
+// A call: 50 frames of speech, a silence of a descriptor, seven frames that are none and another
+// descriptor, and 20 frames of speech.
+fn a_call(alloc: Global) -> Result<Vec<u8>, AllocError> {
+    let mut file = join(alloc, &[(HEAD, 0)])?;
+    let runs: [(usize, Parts<'_>); 5] = [
+        (50, SPEECH),
+        (1, SILENCE),
+        (7, NOTHING),
+        (1, SILENCE),
+        (20, SPEECH),
+    ];
+    for (count, frame) in runs {
+        for _ in 0..count {
+            file.extend_from_slice(&join(alloc, frame)?)?;
+        }
+    }
+    Ok(file)
+}
+
+// A log without its records of these numbers.
+fn without(alloc: Global, log: &[u8], gone: &[usize]) -> Result<Vec<u8>, AllocError> {
+    let mut left = Vec::new(alloc);
+    let mut rest = log;
+    let mut number = 0;
+    while let [high, low, ..] = rest {
+        let whole = 2 + usize::from(*high) * 256 + usize::from(*low);
+        let (record, more) = rest.split_at(whole.min(rest.len()));
+        if !gone.contains(&number) {
+            left.extend_from_slice(record)?;
+        }
+        rest = more;
+        number += 1;
+    }
+    Ok(left)
+}
+
+// How many records a log has.
+fn records(log: &[u8]) -> usize {
+    let mut rest = log;
+    let mut count = 0;
+    while let [high, low, ..] = rest {
+        let whole = 2 + usize::from(*high) * 256 + usize::from(*low);
+        rest = rest.split_at(whole.min(rest.len())).1;
+        count += 1;
+    }
+    count
+}
+
+#[test]
+fn what_is_lost_is_in_another_packet(rt: HostRuntime) -> Result<(), Fail> {
+    let file = a_call(rt.alloc())?;
+    assert_eq!(rt; file.len(), 2_265);
+    // Where packets without a frame are left out, six are: the first of the silence repeats its
+    // descriptor. The packets of blocks 10, 30 and 60 stand behind those.
+    let rows = [
+        ("stream --codec AMR --repeat 1", 79, [10, 30, 60]),
+        ("stream --codec AMR --repeat 1 --skip 1", 73, [10, 30, 54]),
+    ];
+    for (line, count, gone) in rows {
+        let log = put_out(&rt, &[line], &file)?;
+        assert_eq!(rt; records(&log), count, "{line}");
+        let left = without(rt.alloc(), &log, &gone)?;
+        assert_eq!(rt; records(&left), count - 3, "{line}");
+        let again = put_out(&rt, &["record --codec AMR"], &left)?;
+        assert_eq!(rt; again.as_slice(), file.as_slice(), "{line}");
+    }
+    Ok(())
+}
+
+#[test]
+fn frames_that_are_none_are_skipped(rt: HostRuntime) -> Result<(), Fail> {
+    let none = "blocks=0 packets=0\n";
+    let file = join(
+        rt.alloc(),
+        &[(HEAD, 0), (&[0x7C, 0x7C, 0x44], 5), (&[0x7C, 0x7C], 0)],
+    )?;
+    // Packets of two: the first has no frame, and the second ends with its one.
+    expect(
+        &rt,
+        "stream --codec AMR --blocks 2 --skip 1",
+        &file,
+        Status::Done,
+        &[
+            (&[0, 19, 0x80, 0x60, 0, 0, 0, 0, 1, 0x40], 4),
+            (&[0xF4, 0x40], 5),
+        ],
+        "blocks=5 packets=1\n",
+    )?;
+    // A frame of type 15 whose quality is bad is one that is sent.
+    let bad = join(rt.alloc(), &[(HEAD, 0), (&[0x78], 0)])?;
+    expect(
+        &rt,
+        "stream --codec AMR --skip 1",
+        &bad,
+        Status::Done,
+        &[(&[0, 14, 0x80, 0x60], 10), (&[0xF7, 0x80], 0)],
+        "blocks=1 packets=1\n",
+    )?;
+    let empty = join(rt.alloc(), &[(HEAD, 0)])?;
+    expect(
+        &rt,
+        "stream --codec AMR --skip 1",
+        &empty,
+        Status::Done,
+        &[],
+        none,
+    )
+}
+
 #[test]
 fn the_end_of_a_file_has_its_status(rt: HostRuntime) -> Result<(), Fail> {
     let two = "stream --codec AMR --channels 2";

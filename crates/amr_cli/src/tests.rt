@@ -356,7 +356,7 @@ fn the_end_of_a_log_has_its_status(rt: HostRuntime) -> Result<(), Fail> {
 #[test]
 fn other_words_are_a_usage_fault(rt: HostRuntime) -> Result<(), Fail> {
     let log = log_of(rt.alloc(), &[at(0, 0, &[(&[0xF3, 0xC0], 30)])])?;
-    let lines: [&str; 26] = [
+    let lines: [&str; 29] = [
         "",
         "record",
         "record --codec",
@@ -377,12 +377,15 @@ fn other_words_are_a_usage_fault(rt: HostRuntime) -> Result<(), Fail> {
         "stream --codec AMR --cmr 8",
         "stream --codec AMR-WB --cmr 9",
         "stream --codec AMR --length 17",
-        // Groups are of a format with interleaving, which has room for them; no block is repeated.
+        // Groups are of a format with interleaving, which has room for them, and repeat no block.
         "stream --codec AMR --length 2",
         "stream --codec AMR --fmtp octet-align=1 --length 2",
         "stream --codec AMR --fmtp interleaving=4 --blocks 3 --length 2",
         "stream --codec AMR --fmtp interleaving=4 --blocks 5",
         "stream --codec AMR --fmtp interleaving=4 --blocks 1 --length 2 --repeat 1",
+        "stream --codec AMR --blocks 64 --repeat 1",
+        "stream --codec AMR --repeat 64",
+        "stream --codec AMR --skip 2",
         "record --codec AMR --fmtp interleaving=4 --length 2",
     ];
     for line in lines {

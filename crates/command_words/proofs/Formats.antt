@@ -1,5 +1,5 @@
 -- The bits of the modes that media parameters leave, and what values ask for.
-use Rattle.std.proofs.Common.{◌≡◌, ℕ, zero, suc, ◌+◌, ◌*◌, ◌/◌, ◌%◌, ◌^◌, ◌<◌, Bool, false, nat_eq, cond, List, ◌∷◌, filter, map, sum, Option, None, Some, IfSome, option_map, option_and_then, unwrap_or, refl, ap, sym, ◌∙◌, arith}
+use Rattle.std.proofs.Common.{◌≡◌, ℕ, zero, suc, ◌+◌, ◌*◌, ◌/◌, ◌%◌, ◌^◌, ◌<◌, Bool, nat_eq, cond, List, ◌∷◌, filter, map, sum, Option, None, Some, IfSome, option_map, option_and_then, refl, ap, sym, ◌∙◌, arith}
 use Rattle.std.specs.List.{range_with_len}
 use Rattle.std.proofs.lemmas.List.Sums.{sum_by-cons}
 use Rattle.std.proofs.lemmas.Nat.{mod-pow-add}
@@ -9,19 +9,22 @@ use Rattle.amr_frame.specs.declared.codec.Codec.TheVariants.{Amr, AmrWb}
 use Rattle.amr_mode.specs.Members.{members}
 use Rattle.amr_mode.specs.declared.mode_set.ModeSet.{ModeSet}
 use Rattle.media_params.specs.Fmtp.{bits_of}
-use Rattle.command_words.specs.Asked.{asked_in, record_words, stream_words}
+use Rattle.command_words.specs.Asked.{asked_in, convert_words, record_words, stream_words}
 use Rattle.command_words.specs.Built.{commands}
-use Rattle.command_words.specs.Options.{ArePlain}
-use Rattle.command_words.specs.declared.command.Command.TheVariants.{Record, Stream}
+use Rattle.command_words.specs.declared.command.Command.TheVariants.{Convert, Record, Stream}
+use Rattle.command_words.specs.declared.command.ConvertWords.{ConvertWords}
 use Rattle.command_words.specs.declared.command.RecordWords.{RecordWords}
 use Rattle.command_words.specs.declared.command.StreamWords.{StreamWords}
 use Rattle.media_params.specs.Fmtp.{AreShort, format_of, parameters}
 use Rattle.media_params.specs.declared.fmtp.Fmtp.{Fmtp}
-use Rattle.spec_jobs.specs.Jobs.{Job, RecordLog, StreamFile, asked_named, asked_of, record_asked, stream_asked}
+use Rattle.spec_jobs.specs.Jobs.{ConvertLog, Job, RecordLog, StreamFile, asked_named, asked_of, record_asked, stream_asked}
+use Rattle.spec_jobs.specs.Plans.{recording_of, sending_of}
+use Rattle.spec_media.specs.Params.{Parameters}
 use Rattle.spec_modes.specs.ModeSets.{bits_for, modes_in}
 use Rattle.spec_session.specs.Session.{rules_of}
-use Rattle.spec_words.specs.Given.{modes_or_all, number_among, number_or_default, parameters_at}
-use Rattle.spec_words.specs.Table.{fmtp, record_name, repeat, skip, stream_name}
+use Rattle.spec_words.specs.Given.{modes_or_all, number_at, number_or_default, parameters_at}
+use Rattle.spec_words.specs.Table.{convert_name, fmtp, record_name, stream_name, to_fmtp}
+use Rattle.spec_words.specs.Table as option
 use Rattle.spec_words.specs.Words.{Pair}
 
 -- the bits from a place on, as a number
@@ -86,14 +89,14 @@ module _ (c : Codec) (given : List Pair) (f : Fmtp) (fits : AreShort f.modes) (r
       ∙ sym (ap (option_and_then (asked_named record_name c given)) read)
       ∙ ap (λ n. asked_of commands n given c) (sym is)
 
-  -- how a file is sent, by the bits of the modes and by what isn't built
-  abbrev sent : StreamWords → ℕ → ℕ → Bool → Job
-  sent w bits again skips = StreamFile (record {
+  -- how a file is sent, by the bits of the modes
+  abbrev sent : StreamWords → ℕ → Job
+  sent w bits = StreamFile (record {
     profile = record (format_of f c w.channels 64) { modes = bits };
     blocks = w.blocks;
     length = w.length;
-    repeat = again;
-    skip_empty = skips;
+    repeat = w.repeat;
+    skip_empty = w.skip_empty;
     cmr = w.cmr;
     pt = w.pt;
     ssrc = w.ssrc;
@@ -101,19 +104,50 @@ module _ (c : Codec) (given : List Pair) (f : Fmtp) (fits : AreShort f.modes) (r
     ts = w.ts;
   }) w.limit
 
-  same_sending : ArePlain given → asked_in (Stream (stream_words c given f)) ≡ stream_asked c given (parameters f)
-  same_sending plain = λ i. sent (stream_words c given f)
-      (bits_are c f.modes fits i) (sym again i) (sym skips i)
-    where
-      again : number_or_default repeat given ≡ 0
-      again = ap (λ t. unwrap_or (option_and_then (number_among repeat.values) t) 0) plain.repeat
+  same_sending : asked_in (Stream (stream_words c given f)) ≡ stream_asked c given (parameters f)
+  same_sending = ap (sent (stream_words c given f)) (bits_are c f.modes fits)
 
-      skips : nat_eq (number_or_default skip given) 1 ≡ false
-      skips = ap (λ t. nat_eq (unwrap_or (option_and_then (number_among skip.values) t) 0) 1) plain.skip
-
-  pub sending : (command : List ℕ) (w : StreamWords) → ArePlain given → command ≡ stream_name → w ≡ stream_words c given f
+  pub sending : (command : List ℕ) (w : StreamWords) → command ≡ stream_name → w ≡ stream_words c given f
       → Some (asked_in (Stream w)) ≡ asked_of commands command given c
-  sending command w plain is same =
-      ap (λ v. Some (asked_in (Stream v))) same ∙ ap (λ j. Some j) (same_sending plain)
+  sending command w is same =
+      ap (λ v. Some (asked_in (Stream v))) same ∙ ap (λ j. Some j) same_sending
       ∙ sym (ap (option_and_then (asked_named stream_name c given)) read)
       ∙ ap (λ n. asked_of commands n given c) (sym is)
+
+  -- what is converted, by the bits of the modes on both sides
+  abbrev converted : ConvertWords → ℕ → ℕ → Job
+  converted w bits to_bits =
+      let r = w.received in
+      let s = w.sent in
+      let p = record (format_of r.fmtp c r.channels r.max_blocks) { modes = bits; strict = r.strict } in
+      ConvertLog (record { profile = p; asked = r.pt; rules = rules_of p r.window r.reach }) (record {
+        profile = record (format_of s.fmtp c s.channels 64) { modes = to_bits };
+        blocks = s.blocks;
+        length = s.length;
+        repeat = s.repeat;
+        skip_empty = s.skip_empty;
+        cmr = s.cmr;
+        pt = s.pt;
+        ssrc = s.ssrc;
+        seq = s.seq;
+        ts = s.ts;
+      }) r.limit
+
+  -- the same by the media parameters of what is sent
+  abbrev converted_to : Parameters → Job
+  converted_to p = ConvertLog (recording_of c given (number_at option.pt given) (parameters f))
+      (sending_of c given (number_or_default option.to_pt given) 64 p)
+      (number_or_default option.limit given)
+
+  module _ (to : Fmtp) (to_fits : AreShort to.modes) (to_read : parameters_at c to_fmtp given ≡ Some (parameters to)) where
+    same_conversion : Some (asked_in (Convert (convert_words c given f to))) ≡ option_map converted_to (parameters_at c to_fmtp given)
+    same_conversion =
+        (λ i. Some (converted (convert_words c given f to) (bits_are c f.modes fits i) (bits_are c to.modes to_fits i)))
+        ∙ sym (ap (option_map converted_to) to_read)
+
+    pub converting : (command : List ℕ) (w : ConvertWords) → command ≡ convert_name → w ≡ convert_words c given f to
+        → Some (asked_in (Convert w)) ≡ asked_of commands command given c
+    converting command w is same =
+        ap (λ v. Some (asked_in (Convert v))) same ∙ same_conversion
+        ∙ sym (ap (option_and_then (asked_named convert_name c given)) read)
+        ∙ ap (λ n. asked_of commands n given c) (sym is)

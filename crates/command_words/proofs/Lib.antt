@@ -4,5 +4,5 @@ pub mod Listing
 pub mod Modes
 pub mod Numbers
 pub mod Pairs
-pub mod Plain
 pub mod Taken
+pub mod Trying

@@ -4,7 +4,6 @@ use Rattle.std.specs.List.{list_all}
 use Rattle.std.proofs.lemmas.Bool.{and_parts}
 use Rattle.std.proofs.lemmas.Slice.Eq.{bytes_eq-Decides}
 use Rattle.amr_frame.specs.declared.codec.Codec.{Codec}
-use Rattle.command_words.proofs.Plain.{passed}
 use Rattle.command_words.specs.Built.{commands}
 use Rattle.command_words.specs.Options.{HasModes, is_allowed}
 use Rattle.spec_media.specs.Params.{Modes, Parameters}
@@ -14,6 +13,10 @@ use Rattle.spec_words.specs.Given.{is_of, is_value, modes_or_all, parameters_at,
 use Rattle.spec_words.specs.Numbers.{number_of}
 use Rattle.spec_words.specs.Table.{OneMode, fmtp, modes, only, start}
 use Rattle.spec_words.specs.Words.{Pair, value_of}
+
+-- a pair of another option is passed over
+passed : (name : List ℕ) (p : Pair) (rest : List Pair) → bytes_eq p.option name ≡ false → value_of name (p ∷ rest) ≡ value_of name rest
+passed name p rest e = ap (λ b. option_map (λ q. q.value) (cond b (Some p) (find (λ q. bytes_eq q.option name) rest))) e
 
 -- what stands behind an option passes the test that all pairs pass
 taken : (name : List ℕ) (test : Pair → Bool) (ps : List Pair) (value : List ℕ) → list_all test ps ≡ true

@@ -1,19 +1,21 @@
 -- What the words of the command line ask for, as the code has it.
-use Rattle.std.specs.Prelude.{◌≡◌, true, false, List, [], IfSome, bytes_eq, codes, unwrap_or}
+use Rattle.std.specs.Prelude.{◌≡◌, ℕ, true, List, [], IfSome, None, bytes_eq, codes, unwrap_or}
 use Rattle.amr_frame.specs.declared.codec.Codec.{Codec}
 use Rattle.amr_mode.specs.Members.{members}
 use Rattle.amr_mode.specs.declared.mode_set.ModeSet.{ModeSet}
 use Rattle.command_words.specs.declared.command.Command.{Command}
 use Rattle.command_words.specs.declared.command.AnswerWords.{AnswerWords}
-use Rattle.command_words.specs.declared.command.Command.TheVariants.{Answer, Record, Stream}
+use Rattle.command_words.specs.declared.command.Command.TheVariants.{Answer, Convert, Record, Stream, Trial}
 use Rattle.command_words.specs.declared.command.Command.TheVariants.{List as Listed}
+use Rattle.command_words.specs.declared.command.ConvertWords.{ConvertWords}
 use Rattle.command_words.specs.declared.command.ListWords.{ListWords}
 use Rattle.command_words.specs.declared.command.RecordWords.{RecordWords}
 use Rattle.command_words.specs.declared.command.StreamWords.{StreamWords}
+use Rattle.command_words.specs.declared.command.TrialWords.{TrialWords}
 use Rattle.command_words.specs.Rows.{IsWithin}
 use Rattle.media_params.specs.Fmtp.{bits_of, format_of, parameters}
 use Rattle.media_params.specs.declared.fmtp.Fmtp.{Fmtp}
-use Rattle.spec_jobs.specs.Jobs.{AnswerOffer, Job, ListLog, RecordLog, StreamFile}
+use Rattle.spec_jobs.specs.Jobs.{AnswerOffer, ConvertLog, Job, ListLog, RecordLog, RunTrial, StreamFile}
 use Rattle.spec_jobs.specs.Plans.{most_blocks, window_of}
 use Rattle.spec_listing.specs.Listing.{Listing}
 use Rattle.spec_media.specs.Params.{AreParameters}
@@ -22,6 +24,7 @@ use Rattle.spec_offer.specs.Answering.{Answering}
 use Rattle.spec_record.specs.Recording.{Recording}
 use Rattle.spec_sending.specs.declared.plan.SendPlan.{SendPlan}
 use Rattle.spec_session.specs.Session.{rules_of}
+use Rattle.spec_trial.specs.Trials.{Trial as Asked}
 use Rattle.spec_words.specs.Given.{is_on, number_at, number_or, number_or_default, text_at}
 use Rattle.spec_words.specs.Table as option
 use Rattle.spec_words.specs.Words.{Pair}
@@ -32,14 +35,14 @@ recording_of w =
     let f = record (format_of w.fmtp w.codec w.channels w.max_blocks) { strict = w.strict } in
     record { profile = f; asked = w.pt; rules = rules_of f w.window w.reach }
 
--- how a file is sent by these values: each block once, and none is left out
-abbrev pub sending_of : StreamWords → SendPlan
-sending_of w = record {
-  profile = format_of w.fmtp w.codec w.channels 64;
+-- how blocks are sent by these values, in payloads of at most so many blocks
+abbrev pub sending_of : ℕ → StreamWords → SendPlan
+sending_of most w = record {
+  profile = format_of w.fmtp w.codec w.channels most;
   blocks = w.blocks;
   length = w.length;
-  repeat = 0;
-  skip_empty = false;
+  repeat = w.repeat;
+  skip_empty = w.skip_empty;
   cmr = w.cmr;
   pt = w.pt;
   ssrc = w.ssrc;
@@ -76,12 +79,24 @@ listing_of w = record {
   bits = w.show_bits;
 }
 
+-- what is tried by these values
+abbrev pub trial_of : TrialWords → Asked
+trial_of w = record {
+  count = w.count;
+  seed = w.seed;
+  sending = sending_of w.received.max_blocks w.sent;
+  recording = recording_of w.received;
+}
+
 -- the job that a command stands for
 abbrev pub asked_in : Command → Job
 asked_in (Record w) = RecordLog (recording_of w) w.limit
-asked_in (Stream w) = StreamFile (sending_of w) w.limit
+asked_in (Stream w) = StreamFile (sending_of 64 w) w.limit
+asked_in (Convert w) =
+    ConvertLog (recording_of w.received) (sending_of 64 w.sent) w.received.limit
 asked_in (Answer w) = AnswerOffer (answering_of w) w.limit
 asked_in (Listed w) = ListLog (listing_of w) w.limit
+asked_in (Trial w) = RunTrial (trial_of w)
 
 -- the values that options give `record` and `stream`, beside these media parameters
 abbrev pub record_words : Codec → List Pair → Fmtp → RecordWords
@@ -105,11 +120,31 @@ stream_words c given f = record {
   limit = number_or_default option.limit given;
   blocks = number_or_default option.blocks given;
   length = number_or_default option.group given;
+  repeat = number_or_default option.repeat given;
+  skip_empty = is_on option.skip given;
   cmr = number_or_default option.cmr given;
   pt = number_or 96 option.pt given;
   ssrc = number_or_default option.ssrc given;
   seq = number_or_default option.seq given;
   ts = number_or_default option.ts given;
+}
+
+-- those that options give `convert`, beside the media parameters of what is received, and those of
+-- what is sent
+abbrev pub convert_words : Codec → List Pair → Fmtp → Fmtp → ConvertWords
+convert_words c given f to = record {
+  received = record_words c given f;
+  sent = record (stream_words c given to) { pt = number_or_default option.to_pt given };
+}
+
+-- those that options give `trial` with so many blocks, beside the media parameters of what is sent
+-- and received: the packets are of type 96, and any type is read
+abbrev pub trial_words : Codec → List Pair → Fmtp → ℕ → TrialWords
+trial_words c given f count = record {
+  count = count;
+  seed = number_or_default option.seed given;
+  sent = record (stream_words c given f) { pt = 96 };
+  received = record (record_words c given f) { pt = None };
 }
 
 -- those that options give `answer`, beside these modes
@@ -151,8 +186,13 @@ abbrev pub AreSendable : StreamWords → Type 0
 AreSendable w =
     IsWithin option.channels w.channels × IsWithin option.limit w.limit
     × IsWithin option.blocks w.blocks × IsWithin option.group w.length
-    × IsWithin option.cmr w.cmr × IsWithin option.pt w.pt × IsWithin option.ssrc w.ssrc
-    × IsWithin option.seq w.seq × IsWithin option.ts w.ts
+    × IsWithin option.repeat w.repeat × IsWithin option.cmr w.cmr × IsWithin option.pt w.pt
+    × IsWithin option.ssrc w.ssrc × IsWithin option.seq w.seq × IsWithin option.ts w.ts
+
+abbrev pub AreConvertible : ConvertWords → Type 0
+AreConvertible w =
+    AreWithin w.received × AreSendable w.sent
+    × (w.sent.codec ≡ w.received.codec) × (w.sent.channels ≡ w.received.channels)
 
 abbrev pub AreWanted : AnswerWords → Type 0
 AreWanted w =
@@ -166,8 +206,15 @@ AreListed w =
     × (has (members w.modes) w.start ≡ true) × IfSome w.pt (IsWithin option.pt)
     × IsWithin option.max_blocks w.max_blocks × IsWithin option.limit w.limit
 
+abbrev pub AreTried : TrialWords → Type 0
+AreTried w =
+    IsWithin option.count w.count × IsWithin option.seed w.seed
+    × AreWithin w.received × AreSendable w.sent × (w.received.pt ≡ None)
+
 abbrev pub HasValues : Command → Type 0
 HasValues (Record w) = AreWithin w
 HasValues (Stream w) = AreSendable w
+HasValues (Convert w) = AreConvertible w
 HasValues (Answer w) = AreWanted w
 HasValues (Listed w) = AreListed w
+HasValues (Trial w) = AreTried w

@@ -1,5 +1,5 @@
 -- The options that are given behind a command that is built.
-use Rattle.std.specs.Prelude.{◌≡◌, ℕ, Bool, true, List, None, Some}
+use Rattle.std.specs.Prelude.{◌≡◌, ℕ, Bool, true, List, Some}
 use Rattle.std.specs.List.{list_any}
 use Rattle.amr_frame.specs.declared.codec.Codec.{Codec}
 use Rattle.command_words.specs.Built.{built}
@@ -7,17 +7,12 @@ use Rattle.spec_media.specs.Params.{Modes, Parameters}
 use Rattle.spec_media.specs.Params as media
 use Rattle.spec_modes.specs.ModeSets.{has}
 use Rattle.spec_words.specs.Given.{allows, modes_or_all, number_at, parameters_at, text_at}
-use Rattle.spec_words.specs.Table.{fmtp, modes, repeat, skip, start}
+use Rattle.spec_words.specs.Table.{fmtp, modes, start}
 use Rattle.spec_words.specs.Words.{Pair}
 
 -- whether one of the rows that are built allows a pair
 abbrev pub is_allowed : List ℕ → Codec → List Pair → Pair → Bool
 is_allowed command c given p = list_any (allows command c given p) built
-
--- no option is given that isn't built
-pub record ArePlain (given : List Pair) : Type 0 where
-  pub repeat : text_at repeat given ≡ None
-  pub skip : text_at skip given ≡ None
 
 -- the list of modes that is given, where one is, has modes of the codec alone; and the mode to
 -- start at, where one is given, is one of those that the media parameters leave

@@ -1,10 +1,11 @@
 ghost use Rattle.std.specs.Prelude.{◌≡◌, ◌≤◌, IfSome, Some, option_map};
 ghost use Rattle.amr_mode.specs.Members.{members};
-ghost use Rattle.command_words.specs.Asked.{AreListed, AreSendable, AreWanted, AreWithin};
-ghost use Rattle.command_words.specs.Asked.{HasValues, answer_words, asked_in, list_words};
-ghost use Rattle.command_words.specs.Asked.{record_words, stream_words};
+ghost use Rattle.command_words.specs.Asked.{AreConvertible, AreListed, AreSendable, AreTried};
+ghost use Rattle.command_words.specs.Asked.{AreWanted, AreWithin, HasValues, answer_words};
+ghost use Rattle.command_words.specs.Asked.{asked_in, convert_words, list_words, record_words};
+ghost use Rattle.command_words.specs.Asked.{stream_words, trial_words};
 ghost use Rattle.command_words.specs.Built.{built, commands};
-ghost use Rattle.command_words.specs.Options.{ArePlain, HasModes};
+ghost use Rattle.command_words.specs.Options.{HasModes};
 ghost use Rattle.command_words.specs.Rows.{given_in};
 ghost use Rattle.media_params.specs.Fmtp.{AreShort, parameters};
 ghost use Rattle.spec_jobs.specs.Jobs.{asked_by, asked_of};
@@ -17,8 +18,9 @@ ghost use Rattle.spec_words.specs.Words.{texts};
 
 use crate::options::{Options, modes_left};
 use crate::table::{
-    ANSWER, BLOCKS, CHANNELS, CMR, CRC, INTERLEAVING, LENGTH, LIMIT, LIST, MAX_BLOCKS, OFFER_LIMIT,
-    PORT, PT, REACH, RECORD, SEQ, SORTING, SSRC, STREAM, STRICT, TS, WINDOW,
+    ANSWER, BLOCKS, CHANNELS, CMR, CONVERT, COUNT, CRC, FMTP, INTERLEAVING, LENGTH, LIMIT, LIST,
+    MAX_BLOCKS, OFFER_LIMIT, PORT, PT, REACH, RECORD, REPEAT, SEED, SEQ, SKIP, SORTING, SSRC,
+    STREAM, STRICT, TO_FMTP, TO_PT, TRIAL, TS, WINDOW,
 };
 use amr_frame::Codec;
 use amr_mode::ModeSet;
@@ -48,7 +50,8 @@ pub struct RecordWords {
 }
 
 /// What the words ask of `stream`, each in the range of its option. Whether the codec has the mode
-/// that is requested, and whether the format has room for the group, isn't tested here.
+/// that is requested, and whether the format has room for the blocks of a packet or a group, isn't
+/// tested here.
 #[derive(Clone, Copy, Debug, PartialEq, Eq)]
 pub struct StreamWords {
     pub codec: Codec,
@@ -62,6 +65,10 @@ pub struct StreamWords {
     pub blocks: u8,
     /// The packets of an interleaving group, from 1, which is no interleaving, to 16.
     pub length: u8,
+    /// The blocks of a packet that were sent before, from 0 to 63.
+    pub repeat: u8,
+    /// Packets without a frame are left out.
+    pub skip_empty: bool,
     /// The codec mode request of each packet, from 0 to 15, which is none.
     pub cmr: u8,
     /// The payload type of the packets, from 0 to 127.
@@ -72,6 +79,13 @@ pub struct StreamWords {
     pub seq: u16,
     /// The timestamp of the first packet, in ticks of the codec's clock.
     pub ts: u32,
+}
+
+/// What the words ask of `convert`: of what is received, and of what is sent of it.
+#[derive(Clone, Copy, Debug, PartialEq, Eq)]
+pub struct ConvertWords {
+    pub received: RecordWords,
+    pub sent: StreamWords,
 }
 
 /// What the words ask of `answer`, each in the range of its option.
@@ -119,6 +133,18 @@ pub struct ListWords {
     pub limit: u64,
 }
 
+/// What the words ask of `trial`, each in the range of its option: how what is made is sent, and
+/// how what is delivered of it is received.
+#[derive(Clone, Copy, Debug, PartialEq, Eq)]
+pub struct TrialWords {
+    /// The blocks that are made, from 0 to 100,000.
+    pub count: u32,
+    /// The number that is drawn from.
+    pub seed: u32,
+    pub sent: StreamWords,
+    pub received: RecordWords,
+}
+
 /// A command with the values of its options.
 #[derive(Clone, Copy, Debug, PartialEq, Eq)]
 pub enum Command {
@@ -126,10 +152,14 @@ pub enum Command {
     Record(RecordWords),
     /// Writes a storage file as a log of packets.
     Stream(StreamWords),
+    /// Writes a log of packets as a log of packets in another format.
+    Convert(ConvertWords),
     /// Answers an offer.
     Answer(AnswerWords),
     /// Lists the packets of a log.
     List(ListWords),
+    /// Makes speech, loses some of it, and records the rest.
+    Trial(TrialWords),
 }
 
 /// Reads the words of the command line, the first of which is the command. There is no job where there is no word, the
@@ -146,18 +176,25 @@ pub fn read_command(words: &[String]) -> Option<Command>
 
 /// What a command with these options asks.
 fn asked(command: &str, options: &Options<'_>) -> Option<Command>
-    requires plain { ArePlain (given_in options.now) }
     requires modes { HasModes options.now.codec (given_in options.now) }
     ensures job { option_map asked_in result
         ≡ asked_of commands command.now (given_in options.now) options.now.codec }
     ensures within { IfSome result HasValues }
 {
-    let fmtp = options.fmtp()?;
+    let fmtp = options.fmtp(&FMTP)?;
     match command {
         RECORD => Some(Command::Record(record(options, fmtp))),
         STREAM => Some(Command::Stream(stream(options, fmtp))),
+        CONVERT => {
+            let to = options.fmtp(&TO_FMTP)?;
+            Some(Command::Convert(convert(options, fmtp, to)))
+        }
         ANSWER => Some(Command::Answer(answer(options, options.modes()))),
         LIST => Some(Command::List(list(options, fmtp))),
+        TRIAL => {
+            let count = options.number(&COUNT)?;
+            Some(Command::Trial(trial(options, fmtp, count)))
+        }
         _ => None,
     }
 }
@@ -206,11 +243,30 @@ fn stream(options: &Options<'_>, fmtp: Fmtp) -> StreamWords
         limit: options.number_or_default(&LIMIT),
         blocks: options.number_or_default(&BLOCKS) as u8,
         length: options.number_or_default(&LENGTH) as u8,
+        repeat: options.number_or_default(&REPEAT) as u8,
+        skip_empty: options.number_or_default(&SKIP) == 1,
         cmr: options.number_or_default(&CMR) as u8,
         pt: options.number(&PT).unwrap_or(96) as u8,
         ssrc: options.number_or_default(&SSRC) as u32,
         seq: options.number_or_default(&SEQ) as u16,
         ts: options.number_or_default(&TS) as u32,
+    }
+}
+
+/// What these options ask of `convert`, beside the media parameters of what is received, and those
+/// of what is sent.
+fn convert(options: &Options<'_>, fmtp: Fmtp, to: Fmtp) -> ConvertWords
+    ensures values { result ≡ convert_words options.now.codec (given_in options.now) fmtp to }
+    ensures within { AreConvertible result }
+    ensures short { AreShort fmtp.modes × AreShort to.modes }
+{
+    let sent = stream(options, to);
+    ConvertWords {
+        received: record(options, fmtp),
+        sent: StreamWords {
+            pt: options.number_or_default(&TO_PT) as u8,
+            ..sent
+        },
     }
 }
 
@@ -256,5 +312,27 @@ fn list(options: &Options<'_>, fmtp: Fmtp) -> ListWords
         strict: options.number_or_default(&STRICT) == 1,
         show_bits: options.shows_bits(),
         limit: options.number_or_default(&LIMIT),
+    }
+}
+
+/// What these options ask of `trial` with so many blocks, beside these media parameters.
+fn trial(options: &Options<'_>, fmtp: Fmtp, count: u64) -> TrialWords
+    requires { count ≤ 100000 }
+
+    ensures values { result
+        ≡ trial_words options.now.codec (given_in options.now) fmtp count }
+    ensures within { AreTried result }
+    ensures short { AreShort fmtp.modes }
+{
+    let sent = stream(options, fmtp);
+    let received = record(options, fmtp);
+    TrialWords {
+        count: count as u32,
+        seed: options.number_or_default(&SEED) as u32,
+        sent: StreamWords { pt: 96, ..sent },
+        received: RecordWords {
+            pt: None,
+            ..received
+        },
     }
 }

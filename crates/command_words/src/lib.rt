@@ -7,7 +7,10 @@ mod table;
 mod values;
 mod words;
 
-pub use command::{AnswerWords, Command, ListWords, RecordWords, StreamWords, read_command};
+pub use command::{
+    AnswerWords, Command, ConvertWords, ListWords, RecordWords, StreamWords, TrialWords,
+    read_command,
+};
 
 #[cfg(test)]
 mod refused_tests;

@@ -8,10 +8,10 @@ ghost use Rattle.spec_modes.specs.ModeSets.{IsModeSet, greatest, has};
 ghost use Rattle.spec_words.specs.Given.{are_allowed, codec_of, is_value, modes_or_all};
 ghost use Rattle.spec_words.specs.Given.{number_at, number_or, number_or_default};
 ghost use Rattle.spec_words.specs.Given.{parameters_at, text_at};
-ghost use Rattle.spec_words.specs.Table.{OneMode, fmtp, modes, show, start};
+ghost use Rattle.spec_words.specs.Table.{OneMode, modes, show, start};
 ghost use Rattle.spec_words.specs.Words.{texts, pairs};
 ghost use Rattle.command_words.specs.Built.{built};
-ghost use Rattle.command_words.specs.Options.{ArePlain, HasModes};
+ghost use Rattle.command_words.specs.Options.{HasModes};
 ghost use Rattle.command_words.specs.Rows.{HasDefault, IsWithin, given_in, row_of};
 
 use crate::table::{CODEC, FMTP, MODES, Row, SHOW, START, is_allowed};
@@ -36,7 +36,6 @@ impl<'a> Options<'a> {
         ensures codec { option_map (λ options. options.codec) result
             ≡ codec_of built command.now (texts words.now) }
         ensures given { IfSome result (λ options. given_in options ≡ pairs (texts words.now)) }
-        ensures plain { IfSome result (λ options. ArePlain (given_in options)) }
         ensures modes { IfSome result (λ options. HasModes options.codec (given_in options)) }
     {
         let codec = read_codec(value_of(words, CODEC.name)?)?;
@@ -62,13 +61,13 @@ impl<'a> Options<'a> {
         true
     }
 
-    /// The media parameters that are given, those of the empty text where none are.
-    pub fn fmtp(&self) -> Option<Fmtp>
+    /// The media parameters behind the option of a row, those of the empty text where it is absent.
+    pub fn fmtp(&self, row: &Row) -> Option<Fmtp>
         ensures read { option_map parameters result
-            ≡ parameters_at self.now.codec fmtp (given_in self.now) }
+            ≡ parameters_at self.now.codec (row_of row.now) (given_in self.now) }
         ensures valid { IfSome result (λ f. AreParameters self.now.codec (parameters f)) }
     {
-        let text = value_of(self.words, FMTP.name).unwrap_or("");
+        let text = value_of(self.words, row.name).unwrap_or("");
         read_fmtp(self.codec, text.as_bytes()).ok()
     }
 
@@ -92,7 +91,7 @@ impl<'a> Options<'a> {
     pub fn leaves(&self, text: &str) -> bool
         ensures { result ≡ is_value self.now.codec (given_in self.now) OneMode text.now }
     {
-        let Some(fmtp) = self.fmtp() else {
+        let Some(fmtp) = self.fmtp(&FMTP) else {
             return false;
         };
         let Some(mode) = read_number(text) else {

@@ -24,18 +24,24 @@ pub const RECORD: &str = "record";
 /// The command that writes a storage file as a log of packets.
 pub const STREAM: &str = "stream";
 
+/// The command that writes a log of packets as a log of packets in another format.
+pub const CONVERT: &str = "convert";
+
 /// The command that answers an offer.
 pub const ANSWER: &str = "answer";
 
 /// The command that lists the packets of a log.
 pub const LIST: &str = "list";
 
+/// The command that makes speech, loses some of it, and records the rest.
+pub const TRIAL: &str = "trial";
+
 /// The codec, which has to be given.
 pub const CODEC: Row = Row {
     name: "--codec",
     values: Values::Codecs,
     default: None,
-    commands: &[ANSWER, RECORD, STREAM, LIST],
+    commands: &[ANSWER, RECORD, STREAM, CONVERT, LIST, TRIAL],
 };
 
 /// The frames of one block.
@@ -49,12 +55,19 @@ pub const CHANNELS: Row = Row {
     ..CODEC
 };
 
-/// The media parameters of the payloads, as a text.
+/// The media parameters of the payloads that are read or sent, as a text.
 pub const FMTP: Row = Row {
     name: "--fmtp",
     values: Values::Parameters,
     default: None,
-    commands: &[RECORD, STREAM, LIST],
+    commands: &[RECORD, STREAM, CONVERT, LIST, TRIAL],
+};
+
+/// The media parameters of the payloads that are sent of others, as a text.
+pub const TO_FMTP: Row = Row {
+    name: "--to-fmtp",
+    commands: &[CONVERT],
+    ..FMTP
 };
 
 /// The one payload type that is read, or that is sent. Its default depends on the command.
@@ -65,7 +78,15 @@ pub const PT: Row = Row {
         greatest: 127,
     },
     default: None,
-    commands: &[RECORD, LIST, STREAM],
+    commands: &[RECORD, CONVERT, LIST, STREAM],
+};
+
+/// The payload type of the packets that are sent of others.
+pub const TO_PT: Row = Row {
+    name: "--to-pt",
+    default: Some(96),
+    commands: &[CONVERT],
+    ..PT
 };
 
 /// The most octets of a log or a file that are read.
@@ -76,7 +97,7 @@ pub const LIMIT: Row = Row {
         greatest: 1_099_511_627_776,
     },
     default: Some(1_099_511_627_776),
-    ..FMTP
+    commands: &[RECORD, STREAM, CONVERT, LIST],
 };
 
 /// The window, in blocks. Its default depends on the groups.
@@ -87,7 +108,7 @@ pub const WINDOW: Row = Row {
         greatest: 4096,
     },
     default: None,
-    commands: &[RECORD],
+    commands: &[RECORD, CONVERT, TRIAL],
 };
 
 /// How many blocks ahead a packet may lie.
@@ -109,7 +130,7 @@ pub const MAX_BLOCKS: Row = Row {
         greatest: 64,
     },
     default: None,
-    commands: &[RECORD, LIST],
+    commands: &[RECORD, CONVERT, LIST],
 };
 
 /// Whether payloads that no sender by the standard sends are refused: 1 where they are.
@@ -147,7 +168,7 @@ pub const SSRC: Row = Row {
         greatest: 4_294_967_295,
     },
     default: Some(0),
-    commands: &[STREAM],
+    commands: &[STREAM, CONVERT],
 };
 
 /// The timestamp of the first packet.
@@ -185,7 +206,7 @@ pub const BLOCKS: Row = Row {
         greatest: 64,
     },
     default: Some(1),
-    ..SSRC
+    commands: &[STREAM, CONVERT, TRIAL],
 };
 
 /// The packets of an interleaving group.
@@ -196,6 +217,27 @@ pub const LENGTH: Row = Row {
         greatest: 16,
     },
     ..BLOCKS
+};
+
+/// The blocks of a packet that were sent before.
+pub const REPEAT: Row = Row {
+    name: "--repeat",
+    values: Values::Numbers {
+        least: 0,
+        greatest: 63,
+    },
+    default: Some(0),
+    ..BLOCKS
+};
+
+/// Whether packets without a frame are left out: 1 where they are.
+pub const SKIP: Row = Row {
+    name: "--skip",
+    values: Values::Numbers {
+        least: 0,
+        greatest: 1,
+    },
+    ..REPEAT
 };
 
 /// The most octets of an offer that are read.
@@ -256,12 +298,36 @@ pub const PORT: Row = Row {
     ..OFFER_LIMIT
 };
 
+/// The blocks that a trial makes, which have to be given.
+pub const COUNT: Row = Row {
+    name: "--count",
+    values: Values::Numbers {
+        least: 0,
+        greatest: 100_000,
+    },
+    default: None,
+    commands: &[TRIAL],
+};
+
+/// The number that a trial draws from.
+pub const SEED: Row = Row {
+    name: "--seed",
+    values: Values::Numbers {
+        least: 0,
+        greatest: 4_294_967_295,
+    },
+    default: Some(0),
+    ..COUNT
+};
+
 /// All rows.
-const TABLE: [Row; 23] = [
+const TABLE: [Row; 29] = [
     CODEC,
     CHANNELS,
     FMTP,
+    TO_FMTP,
     PT,
+    TO_PT,
     LIMIT,
     WINDOW,
     REACH,
@@ -269,6 +335,8 @@ const TABLE: [Row; 23] = [
     STRICT,
     BLOCKS,
     LENGTH,
+    REPEAT,
+    SKIP,
     CMR,
     SSRC,
     SEQ,
@@ -281,6 +349,8 @@ const TABLE: [Row; 23] = [
     SORTING,
     INTERLEAVING,
     PORT,
+    COUNT,
+    SEED,
 ];
 
 impl Row {

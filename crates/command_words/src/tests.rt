@@ -1,4 +1,7 @@
-use crate::{AnswerWords, Command, ListWords, RecordWords, StreamWords, read_command};
+use crate::{
+    AnswerWords, Command, ConvertWords, ListWords, RecordWords, StreamWords, TrialWords,
+    read_command,
+};
 use amr_frame::Codec;
 use amr_mode::ModeSet;
 use media_params::Fmtp;
@@ -38,6 +41,8 @@ const SENDING: StreamWords = StreamWords {
     limit: 1_099_511_627_776,
     blocks: 1,
     length: 1,
+    repeat: 0,
+    skip_empty: false,
     cmr: 15,
     ssrc: 0,
     seq: 0,
@@ -57,6 +62,8 @@ const OTHERS: StreamWords = StreamWords {
     limit: 4,
     blocks: 64,
     length: 16,
+    repeat: 63,
+    skip_empty: true,
     cmr: 8,
     pt: 5,
     ssrc: 4_294_967_295,
@@ -267,17 +274,161 @@ fn a_file_is_sent_as_the_options_say(rt: HostRuntime) -> Result<(), Fail> {
         ),
         ("stream --codec AMR --length 01", SENDING),
         (
+            "stream --codec AMR --repeat 2",
+            StreamWords {
+                repeat: 2,
+                ..SENDING
+            },
+        ),
+        (
+            "stream --skip 1 --codec AMR",
+            StreamWords {
+                skip_empty: true,
+                ..SENDING
+            },
+        ),
+        ("stream --codec AMR --skip 0 --repeat 0", SENDING),
+        (
             "stream --codec AMR --ts 9",
             StreamWords { ts: 9, ..SENDING },
         ),
         (
-            "stream --ts 1 --seq 65535 --ssrc 4294967295 --cmr 8 --blocks 64 --length 16 --limit 4 --pt 5 --channels 6 --fmtp crc=1;mode-set=8,0 --codec AMR-WB",
+            "stream --ts 1 --seq 65535 --ssrc 4294967295 --cmr 8 --skip 1 --blocks 64 --length 16 --repeat 63 --limit 4 --pt 5 --channels 6 --fmtp crc=1;mode-set=8,0 --codec AMR-WB",
             OTHERS,
         ),
     ];
     for (line, job) in rows {
         let asked = read(rt.alloc(), line)?;
         assert_eq!(rt; asked, Some(Command::Stream(job)), "of {line}");
+    }
+    Ok(())
+}
+
+#[test]
+fn a_log_is_converted_as_the_options_say(rt: HostRuntime) -> Result<(), Fail> {
+    let same = ConvertWords {
+        received: PLAIN,
+        sent: SENDING,
+    };
+    let wide = RecordWords {
+        codec: Codec::AmrWb,
+        channels: 2,
+        fmtp: Fmtp {
+            octet_aligned: true,
+            crc: true,
+            ..PACKED
+        },
+        pt: Some(97),
+        limit: 1000,
+        window: 300,
+        reach: 100,
+        max_blocks: 12,
+        strict: true,
+    };
+    let grouped = StreamWords {
+        codec: Codec::AmrWb,
+        channels: 2,
+        fmtp: Fmtp {
+            octet_aligned: true,
+            interleaving: Some(8),
+            ..PACKED
+        },
+        pt: 98,
+        limit: 1000,
+        blocks: 2,
+        length: 4,
+        repeat: 0,
+        skip_empty: true,
+        cmr: 8,
+        ssrc: 1,
+        seq: 2,
+        ts: 3,
+    };
+    let of_type = |pt: u8| RecordWords {
+        pt: Some(pt),
+        ..PLAIN
+    };
+    let rows = [
+        ("convert --codec AMR", same),
+        // The type that is read isn't that of what is sent.
+        (
+            "convert --codec AMR --pt 97",
+            ConvertWords {
+                received: of_type(97),
+                ..same
+            },
+        ),
+        (
+            "convert --codec AMR --to-pt 0",
+            ConvertWords {
+                sent: StreamWords { pt: 0, ..SENDING },
+                ..same
+            },
+        ),
+        (
+            "convert --codec AMR-WB --channels 2 --fmtp crc=1 --to-fmtp interleaving=8 --pt 97 --to-pt 98 --window 300 --reach 100 --max-blocks 12 --strict 1 --limit 1000 --blocks 2 --length 4 --repeat 0 --skip 1 --cmr 8 --ssrc 1 --ts 3 --seq 2",
+            ConvertWords {
+                received: wide,
+                sent: grouped,
+            },
+        ),
+    ];
+    for (line, job) in rows {
+        let asked = read(rt.alloc(), line)?;
+        assert_eq!(rt; asked, Some(Command::Convert(job)), "of {line}");
+    }
+    Ok(())
+}
+
+#[test]
+fn a_trial_is_made_as_the_options_say(rt: HostRuntime) -> Result<(), Fail> {
+    let none = TrialWords {
+        count: 0,
+        seed: 0,
+        sent: SENDING,
+        received: PLAIN,
+    };
+    // What is sent has no more blocks in a payload than the window holds.
+    let narrow = RecordWords {
+        window: 8,
+        max_blocks: 8,
+        ..PLAIN
+    };
+    let again = StreamWords {
+        codec: Codec::AmrWb,
+        channels: 6,
+        repeat: 1,
+        ..SENDING
+    };
+    let wide = RecordWords {
+        codec: Codec::AmrWb,
+        channels: 6,
+        ..PLAIN
+    };
+    let rows = [
+        ("trial --codec AMR --count 0", none),
+        (
+            "trial --codec AMR --seed 7 --window 8 --count 100000",
+            TrialWords {
+                count: 100_000,
+                seed: 7,
+                received: narrow,
+                ..none
+            },
+        ),
+        (
+            "trial --codec AMR-WB --count 10000 --channels 6 --repeat 1 --seed 4294967295",
+            TrialWords {
+                count: 10_000,
+                seed: 4_294_967_295,
+                sent: again,
+                received: wide,
+            },
+        ),
+    ];
+    for (line, job) in rows {
+        let asked = read(rt.alloc(), line)?;
+        assert_eq!(rt; asked, Some(Command::Trial(job)), "of {line}");
     }
     Ok(())
 }
