@@ -84,6 +84,14 @@ fn faults_leave_a_front_of_what_is_put_out(rt: HostRuntime) -> Result<(), Fail> 
         noted: 73,
     };
     expect_fronts(&rt, "record --codec AMR --window 3", &log, &recorded)?;
+    // Converted, these are three packets of as many octets, and none has left the window before the end.
+    let converted = Front {
+        early: 0,
+        late: 0,
+        whole: 110,
+        noted: 92,
+    };
+    expect_fronts(&rt, "convert --codec AMR --window 3", &log, &converted)?;
     // A file of 38 octets: its packet is out once all of them are read.
     let file = join(rt.alloc(), &[(HEAD, 0), (&[0x3C], 31)])?;
     let sent = Front {
