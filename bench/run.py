@@ -28,6 +28,8 @@ CASES = [
     ("groups", "file", ["stream", *GROUPS, "--blocks", "6", "--length", "5"], ["record", *GROUPS]),
     ("six", "six", ["stream", *SIX], ["record", *SIX]),
     ("stream", "file", None, ["stream", "--codec", "AMR"]),
+    ("coded", "wideband", None, ["stream", *SORTED, "--blocks", "4"]),
+    ("convert", "speech", None, ["convert", "--codec", "AMR", "--to-fmtp", "octet-align=1"]),
     ("list", "speech", None, ["list", "--codec", "AMR"]),
 ]
 
