@@ -1,0 +1,6 @@
+//! Laws of the order of packets. Each is the contract of a function that does nothing.
+#![tactic(auto)]
+
+mod order;
+
+pub use order::another_order_moves_all_places_alike;
