@@ -1,3 +1,6 @@
+pub mod Copies
 pub mod Members
+pub mod Moved
 pub mod Places
+pub mod Released
 pub mod Standing

@@ -3,4 +3,4 @@
 
 mod order;
 
-pub use order::another_order_moves_all_places_alike;
+pub use order::{another_order_moves_all_places_alike, another_order_releases_the_same};
