@@ -6,7 +6,7 @@ use Rattle.std.specs.List.{range_with_len, sum_by}
 use Rattle.std.proofs.lemmas.List.{append-nil, append_assoc, length-append, length-map, map-append}
 use Rattle.std.proofs.lemmas.List.Sums.{sum-map, sum_by-cons}
 use Rattle.std.proofs.lemmas.Nat.{div_below}
-use Rattle.order_laws.specs.Order.{AllAccepted, AllInTime, HasWholeBlocks, StandsIn}
+use Rattle.order_laws.specs.Order.{AllAccepted, AllInTime, HasWholeBlocks, HaveWholeBlocks, StandsIn}
 use Rattle.order_laws.proofs.Members.{all_in, in_map, in_range, none_kept}
 use Rattle.segment_laws.proofs.Alone.{accepts_it}
 use Rattle.segment_laws.proofs.Single.{same_accepted}
@@ -84,14 +84,14 @@ its_block frames blocks zero i e l = absurd (grind arith)
 its_block frames blocks (suc c) i e l = div_below i (suc c) blocks (omega arith) (omega (arith, e, l))
 
 -- so no frame is late
-pub frame_in_time : (rules : Rules) (h : List Packet) → AllInTime rules h → (a : Accepted) →
+pub frame_in_time : (rules : Rules) (h : List Packet) → HaveWholeBlocks rules h → AllInTime rules h → (a : Accepted) →
     StandsIn a (accepted rules h) → (i : ℕ) → i < length a.packet.value.frames →
     in_time rules a (block_place a (i / rules.channels)) ≡ true
-frame_in_time rules h k a s i l =
+frame_in_time rules h w k a s i l =
     let acc = accepted rules h in
     let late = no_part (late_in rules) acc a (sym (sum-map (late_in rules) acc) ∙ k.timely) s in
     let there : StandsIn a.packet h =
     subst (StandsIn a.packet) (are_the_packets rules h k.taken) (in_map (λ (b : Accepted). b.packet) acc a s) in
-    let whole = all_in (HasWholeBlocks rules) h a.packet k.whole there in
+    let whole = all_in (HasWholeBlocks rules) h a.packet w there in
     block_in_time rules a (i / rules.channels) late
     (its_block (length a.packet.value.frames) (blocks_in rules a.packet.value) rules.channels i whole l)

@@ -19,14 +19,17 @@ StandsIn x (y ∷ ys) = (y ≡ x) ⊎ StandsIn x ys
 abbrev pub AllStandIn : {X : Type 0} → List X → List X → Type 0
 AllStandIn xs ys = AllByRecursion (λ x. StandsIn x ys) xs
 
--- the same packets in any order and with any repeats
-pub record HaveTheSame (h k : List Packet) : Type 0 where
-  pub there : AllStandIn h k
-  pub back : AllStandIn k h
+-- the same in any order and with any repeats
+pub record HaveTheSame {X : Type 0} (xs ys : List X) : Type 0 where
+  pub there : AllStandIn xs ys
+  pub back : AllStandIn ys xs
 
 -- the frames of a packet are whole blocks, as those of each payload of the format are
 abbrev pub HasWholeBlocks : Rules → Packet → Type 0
 HasWholeBlocks rules x = length x.value.frames ≡ blocks_in rules x.value * rules.channels
+
+abbrev pub HaveWholeBlocks : Rules → List Packet → Type 0
+HaveWholeBlocks rules h = AllByRecursion (HasWholeBlocks rules) h
 
 -- from the least to the greatest place of accepted packets there are less than 2^31 ticks
 abbrev pub IsNarrow : Rules → List Accepted → Type 0
@@ -43,7 +46,6 @@ pub record AllAccepted (rules : Rules) (h : List Packet) : Type 0 where
 -- so it is, and no block is late
 pub record AllInTime (rules : Rules) (h : List Packet) : Type 0 where
   pub taken : AllAccepted rules h
-  pub whole : AllByRecursion (HasWholeBlocks rules) h
   pub timely : late_count rules h ≡ 0
 
 -- the places of the second list are those of the first moved by d

@@ -1,4 +1,5 @@
-ghost use Rattle.order_laws.specs.Order.{AllAccepted, AllInTime, AreMovedBy, HaveTheSame};
+ghost use Rattle.order_laws.specs.Order.{AllAccepted, AllInTime, AreMovedBy};
+ghost use Rattle.order_laws.specs.Order.{HaveTheSame, HaveWholeBlocks};
 ghost use Rattle.spec_segments.specs.Release.{released};
 ghost use Rattle.spec_segments.specs.Segments.{accepted};
 ghost use Rattle.spec_session.specs.Packets.{Packet};
@@ -14,9 +15,11 @@ pub fn another_order_moves_all_places_alike()
         → (d : ℤ) × AreMovedBy d (accepted rules h) (accepted rules k) }
 {}
 
-/// The same packets in any order and with any repeats release the same blocks, where in both orders
-/// each is accepted in one segment, no block is late, and the places span less than 2^31 ticks.
+/// The same packets of whole blocks, in any order and with any repeats, release the same blocks,
+/// where in both orders each is accepted in one segment, no block is late, and the places span less
+/// than 2^31 ticks.
 pub fn another_order_releases_the_same()
     ensures { (rules : Rules) (h k : List Packet) → HaveTheSame h k
-        → AllInTime rules h → AllInTime rules k → released rules h ≡ released rules k }
+        → HaveWholeBlocks rules h → AllInTime rules h → AllInTime rules k
+        → released rules h ≡ released rules k }
 {}
