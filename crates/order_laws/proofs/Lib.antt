@@ -1,4 +1,5 @@
 pub mod Copies
+pub mod Heard
 pub mod Members
 pub mod Moved
 pub mod Places

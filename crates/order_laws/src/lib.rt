@@ -2,5 +2,7 @@
 #![tactic(auto)]
 
 mod order;
+mod recorded;
 
 pub use order::{another_order_moves_all_places_alike, another_order_releases_the_same};
+pub use recorded::{another_order_is_recorded_the_same, records_hold_whole_blocks};
