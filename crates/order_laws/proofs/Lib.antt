@@ -1,3 +1,4 @@
+pub mod ByHand
 pub mod Copies
 pub mod Heard
 pub mod Members

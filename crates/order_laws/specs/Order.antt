@@ -36,8 +36,8 @@ abbrev pub IsNarrow : Rules → List Accepted → Type 0
 IsNarrow rules acc = (a b : Accepted) → StandsIn a acc → StandsIn b acc
     → (pos (ticks rules.codec) *ℤ (a.place -ℤ b.place)) <ℤ pos (2 ^ 31)
 
--- each of the packets is accepted, no packet but the first begins a segment, and the places span less
--- than half a turn of the timestamps
+-- each of the packets is accepted, no packet but the first begins a segment, and the places span
+-- less than half a turn of the timestamps
 pub record AllAccepted (rules : Rules) (h : List Packet) : Type 0 where
   pub all : length (accepted rules h) ≡ length h
   pub one : IsOneSegment rules h
