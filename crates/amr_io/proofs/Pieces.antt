@@ -1,5 +1,5 @@
 -- Pieces of lists of octets: what is written from the front, given from the front, or moved to the front.
-use Rattle.std.proofs.Common.{◌≡◌, ℕ, ◌+◌, ◌-◌, ◌≤◌, List, [], ◌∷◌, ◌++◌, refl, length, take, drop, sym, subst, ap, ◌∙◌, arith, length-drop, take-append-drop, length-take}
+use Rattle.std.proofs.Common.{◌≡◌, ℕ, zero, suc, ◌+◌, ◌-◌, ◌<◌, ◌≤◌, List, [], ◌∷◌, ◌++◌, refl, length, take, drop, sym, subst, ap, ◌∙◌, arith, length-drop, take-append-drop, length-take}
 use Rattle.std.proofs.lemmas.List.{take_at, take_rest, drop-take, drop-drop, length-take-le}
 use Rattle.std.proofs.Math.Seq.{take-add}
 use Rattle.std.specs.Prelude.{Option, slice_range}
@@ -51,3 +51,32 @@ held_and_read room before held at n same is =
 -- a part within the room has the length that its ends say
 pub length_of_part : (room : List ℕ) (at n : ℕ) → at + n ≤ length room → length (slice_range room at (at + n)) ≡ n
 length_of_part room at n fits = omega (arith, length-take {A = ℕ}, length-drop {A = ℕ})
+
+-- what a piece of a head and the front of a body has behind its first octets is a part of the body
+pub rest_of_headed : (head : ℕ) (body : List ℕ) (count done : ℕ) → 0 < done → done ≤ count
+    → slice_range body (done - 1) count ≡ drop done (head ∷ take count body)
+rest_of_headed head body count zero some fits = absurd (omega (arith, some))
+rest_of_headed head body count (suc d) some fits =
+    let one : suc d - 1 ≡ d = omega arith in
+    let whole : d + (count - d) ≡ count = omega (arith, fits) in
+    ap (λ i. slice_range body i count) one
+    ∙ sym (drop-take d (count - d) body) ∙ ap (λ m. drop d (take m body)) whole
+
+-- what was appended from the front of a text, and then of what stands behind it, is a longer front
+pub appends_more : (a b c : Option (List ℕ)) (text rest : List ℕ) (done n : ℕ) → rest ≡ drop done text
+    → Appends a b (take done text) → Appends b c (take n rest) → Appends a c (take (done + n) text)
+appends_more a b c text rest done n is first second =
+    subst (Appends a c) (ap (λ l. take done text ++ take n l) is ∙ sym (take-add done n text))
+    (Appends-trans a b c _ _ first second)
+
+-- and with all that stands behind it, it is the text
+pub appends_all : (a b c : Option (List ℕ)) (text rest : List ℕ) (done : ℕ) → rest ≡ drop done text
+    → Appends a b (take done text) → Appends b c rest → Appends a c text
+appends_all a b c text rest done is first second =
+    subst (Appends a c) (ap (λ l. take done text ++ l) is ∙ take-append-drop done text)
+    (Appends-trans a b c _ _ first second)
+
+-- and that front is shorter than the text where it is shorter than what stands there
+pub headed_part : (text rest : List ℕ) (done n : ℕ) → rest ≡ drop done text → done ≤ length text → n < length rest
+    → done + n < length text
+headed_part text rest done n is fits part = omega (arith, ap length is, fits, part, length-drop {A = ℕ})

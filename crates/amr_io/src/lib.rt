@@ -20,7 +20,7 @@ pub use memory_sink::MemorySink;
 pub use memory_source::MemorySource;
 pub use sink::Sink;
 pub use source::{Failed, Source};
-pub use whole::write_whole;
+pub use whole::{write_whole, write_whole_headed};
 
 #[cfg(test)]
 mod tests;

@@ -1,5 +1,5 @@
 // What octets are written to.
-ghost use Rattle.std.specs.Prelude.{◌≡◌, ◌<◌, ℕ, List, length, Option};
+ghost use Rattle.std.specs.Prelude.{◌≡◌, ◌<◌, ◌≤◌, ◌∷◌, ℕ, List, length, take, Option};
 ghost use Rattle.amr_io.specs.Fault.{HasCause};
 ghost use Rattle.amr_io.specs.Told.{Writes};
 
@@ -29,6 +29,21 @@ pub trait Sink {
         ensures cause { HasCause (faults self.old) (faults self.new) result }
         ensures beside { beside self.new ≡ beside self.old }
         ensures same { same self.old self.new };
+
+    /// Writes some octets from the front of `head` and the first `count` of `body`, at least one, and answers how many. A
+    /// sink with room for all of `body` may copy it as a whole, which is cheaper than a copy of `count` octets.
+    ///
+    /// `Failed` comes only where `faults` rose, and what the sink got is then as before.
+    fn write_headed(&mut self, head: u8, body: &[u8], count: usize) -> Result<usize, Failed>
+        requires within { count ≤ length body.now }
+
+        ensures octets { Writes (got self.old) (got self.new) result (head ∷ take count body.now) }
+        ensures cause { HasCause (faults self.old) (faults self.new) result }
+        ensures beside { beside self.new ≡ beside self.old }
+        ensures same { same self.old self.new }
+    {
+        self.write(&[head])
+    }
 
     /// Each sink writes to the object that it writes to.
     ghost reflexive: { (s : Self) → same s s };

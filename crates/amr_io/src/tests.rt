@@ -2,7 +2,7 @@ ghost use Rattle.std.specs.Prelude.{◌≡◌};
 
 use crate::{
     DropSink, Failed, FaultlessSource, Filled, Gate, Inlet, MemorySink, MemorySource, ReadSource,
-    Sink, Source, WriteSink, write_whole,
+    Sink, Source, WriteSink, write_whole, write_whole_headed,
 };
 use std::alloc::AllocError;
 use std::io;
@@ -113,6 +113,20 @@ fn a_whole_piece_is_written_or_a_proper_prefix(rt: HostRuntime) -> Result<(), Fa
     let mut drop = DropSink::new();
     assert_eq!(rt; write_some(&mut drop), Ok(4));
     assert_eq!(rt; write_whole(&mut drop, b"abcd"), Ok(()));
+    Ok(())
+}
+
+#[test]
+fn a_head_and_the_front_of_a_body_are_written_as_one_piece(rt: HostRuntime) -> Result<(), Fail> {
+    let body = *b"bcdefg";
+    let mut sink = MemorySink::create(rt.alloc(), 5, 1, &[])?;
+    assert_eq!(rt; write_whole_headed(&mut sink, b'a', &body, 3), Ok(()));
+    assert_eq!(rt; write_whole_headed(&mut sink, b'z', &body, 0), Ok(()));
+    assert_eq!(rt; write_whole_headed(&mut sink, b'z', &body, 6), Err(Failed));
+    assert_eq!(rt; sink.octets(), b"abcdz".as_slice());
+    let mut small = MemorySink::create(rt.alloc(), 3, 9, &[])?;
+    assert_eq!(rt; write_whole_headed(&mut small, b'a', &body, 3), Err(Failed));
+    assert_eq!(rt; small.octets(), b"abc".as_slice());
     Ok(())
 }
 

@@ -1,5 +1,5 @@
 // Writing all of a piece.
-ghost use Rattle.std.specs.Prelude.{◌≡◌, ◌<◌, [], length, Ok, OnOk, OnErr};
+ghost use Rattle.std.specs.Prelude.{◌≡◌, ◌<◌, ◌≤◌, ◌∷◌, [], length, take, Ok, OnOk, OnErr};
 ghost use Rattle.std.specs.Io.KnownBytes.{Appends};
 ghost use Rattle.amr_io.specs.Fault.{HasCause};
 ghost use Rattle.amr_io.specs.Steps.{SinkStep};
@@ -26,6 +26,31 @@ pub fn write_whole<S: Sink>(sink: &mut S, bytes: &[u8]) -> Result<(), Failed>
     let count = sink.write(bytes)?;
     if count < bytes.len() {
         return write_rest(sink, &bytes[count..]);
+    }
+    Ok(())
+}
+
+/// Writes all of `head` and the first `count` octets of `body`, in as many writes as the sink needs.
+///
+/// `Failed` comes only where the sink's faults rose. A proper prefix of these octets, never the whole, was then written.
+#[inline(always)]
+pub fn write_whole_headed<S: Sink>(
+    sink: &mut S,
+    head: u8,
+    body: &[u8],
+    count: usize,
+) -> Result<(), Failed>
+    requires within { count ≤ length body.now }
+
+    ensures whole { OnOk result (Appends (S.got sink.old) (S.got sink.new)
+        (head ∷ take count body.now)) }
+    ensures part { OnErr result (AppendsPart (S.got sink.old) (S.got sink.new)
+        (head ∷ take count body.now)) }
+    ensures step { SinkStep S.Sink sink.old sink.new result }
+{
+    let done = sink.write_headed(head, body, count)?;
+    if done <= count {
+        return write_rest(sink, &body[done - 1..count]);
     }
     Ok(())
 }
