@@ -1,5 +1,6 @@
 -- The octet before the bits of a frame.
-use Rattle.std.proofs.Common.{◌≡◌, ℕ, ◌+◌, ◌*◌, ◌/◌, ◌%◌, ◌<◌, ◌≤◌, Bool, false, cond, List, [], ◌∷◌, ◌++◌, eqb, sym, refl, ap, ◌∙◌, arith, inl, inr, slice_set, take, length}
+use mir.Val.{bool_byte}
+use Rattle.std.proofs.Common.{◌≡◌, ℕ, ◌+◌, ◌*◌, ◌/◌, ◌%◌, ◌<◌, ◌≤◌, Bool, false, true, cond, List, [], ◌∷◌, ◌++◌, eqb, sym, refl, ap, ◌∙◌, arith, inl, inr, slice_set, take, length}
 use Rattle.std.proofs.lemmas.Bool.{ne_eqb}
 use Rattle.std.proofs.lemmas.Bool.Decides.{eqb_tells}
 use Rattle.amr_frame.specs.declared.codec.Codec.{Codec}
@@ -16,6 +17,11 @@ parity n =
 
 head_number : (ft a b c d q : ℕ) → ft ≤ 15 → a ≡ ft / 8 % 2 → b ≡ ft / 4 % 2 → c ≡ ft / 2 % 2 → d ≡ ft / 1 % 2 → 2 * (2 * (2 * (2 * (2 * (2 * (2 * (2 * 0 + 0) + a) + b) + c) + d) + q) + 0) + 0 ≡ ft * 8 + q * 4
 head_number ft a b c d q h ea eb ec ed = omega arith
+
+-- a bit as a number
+pub bit_as_number : (b : Bool) → bool_byte b ≡ cond b 1 0
+bit_as_number true = refl
+bit_as_number false = refl
 
 -- the octet with Q
 pub head : (ft : ℕ) (q : Bool) → ft ≤ 15 → (ft * 8 + cond q 1 0 * 4) ∷ [] ≡ filled (false ∷ nat 4 ft ++ q ∷ [])

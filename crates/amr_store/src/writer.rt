@@ -7,7 +7,7 @@ ghost use Rattle.amr_store.specs.Written.{AreChannels, StandsOver, WroteText, st
 ghost use Rattle.spec_store.specs.StorageFile.{block_text, header, multi};
 ghost use Rattle.amr_frame.specs.Blocks.{frames_of};
 
-use crate::frame::write_frame;
+use crate::frame::write_cell;
 use amr_frame::{BlockSink, Cell, Codec};
 use amr_io::{Failed, Sink, write_whole};
 
@@ -122,10 +122,8 @@ pub fn write_cells<O: Sink>(cells: &[Cell], sink: &mut O) -> Result<(), Failed>
     requires { AllByRecursion (λ (cell : Cell). cell.ft ≤ 15) cells.now }
     ensures { WroteText O.Sink (block_text (frames_of cells.now)) sink.old sink.new result }
 {
-    let mut octets = [0u8; 61];
     for cell in cells {
-        let count = write_frame(cell, &mut octets);
-        write_whole(sink, &octets[..count])?;
+        write_cell(cell, sink)?;
     }
     Ok(())
 }

@@ -1,5 +1,5 @@
 // Octets that wait to be written.
-ghost use Rattle.std.specs.Prelude.{◌≡◌, ℕ, ◌+◌, ◌-◌, ◌≤◌, ◌<◌, ◌++◌, [], List, length, drop, take, IfOk, OnOk, slice_range};
+ghost use Rattle.std.specs.Prelude.{◌≡◌, ℕ, ◌+◌, ◌-◌, ◌≤◌, ◌<◌, ◌++◌, ◌∷◌, [], List, length, drop, take, IfOk, OnOk, slice_range};
 ghost use Rattle.std.specs.Io.KnownBytes.{Keeps, append_known};
 ghost use Rattle.amr_io.specs.Steps.{SinkStep};
 ghost use Rattle.log_engine.specs.Tray.{Tray, Grows};
@@ -44,6 +44,20 @@ fn put_at(tray: &mut [u8], at: usize, octets: &[u8])
         ≡ slice_range tray.old from at ++ take count octets.now }
 {
     tray[at..at + octets.len()].copy_from_slice(octets);
+}
+
+/// Puts a head and octets at `at`, and leaves what stands before.
+#[inline(always)]
+fn put_headed(tray: &mut [u8], at: usize, head: u8, octets: &[u8])
+    requires { at + 1 + length octets.now ≤ length tray.old }
+
+    ensures size { length tray.new ≡ length tray.old }
+    ensures front { (from count : ℕ) → from ≤ at → count ≤ length octets.now
+        → slice_range tray.new from (at + 1 + count)
+        ≡ slice_range tray.old from at ++ head ∷ take count octets.now }
+{
+    tray[at] = head;
+    put_at(tray, at + 1, octets);
 }
 
 impl Gather {
@@ -107,6 +121,21 @@ impl Gather {
     {
         put_at(&mut self.tray, self.used, octets);
         self.used += count;
+    }
+
+    /// Takes `head` and the first `count` octets of `body` to those that wait, where there is room for
+    /// all of `body`: it is copied as a whole, whatever `count` is.
+    #[inline(always)]
+    pub fn push_headed(&mut self, head: u8, body: &[u8], count: usize)
+        requires count { count ≤ length body.now }
+        requires room { self.old.used + 1 + length body.now ≤ self.old.room }
+        ensures { self.new ≡ record self.old {
+          waiting = self.old.waiting ++ head ∷ take count body.now;
+          used = self.old.used + (1 + count);
+        } }
+    {
+        put_headed(&mut self.tray, self.used, head, body);
+        self.used += 1 + count;
     }
 
     /// Drops the first octets that wait.

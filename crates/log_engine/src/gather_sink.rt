@@ -64,6 +64,19 @@ impl<'a, O: Sink> Sink for GatherSink<'a, O> {
         Ok(bytes.len())
     }
 
+    /// Takes all of them where there is room for `body` as a whole once what waits is written, and else the head.
+    #[inline(always)]
+    fn write_headed(&mut self, head: u8, body: &[u8], count: usize) -> Result<usize, Failed> {
+        if self.gather.free() <= body.len() {
+            self.flush()?;
+            if self.gather.room() <= body.len() {
+                return self.output.write(&[head]);
+            }
+        }
+        self.gather.push_headed(head, body, count);
+        Ok(1 + count)
+    }
+
     ghost reflexive = { λ s. (refl, O.reflexive s.output.now, ([], Appends-nil _)) };
 
     ghost transitive = { λ a b c p q. (
