@@ -241,6 +241,7 @@ impl Sender {
             out,
         )?;
         self.packets += sent;
+        self.fresh = 0;
         Ok(())
     }
 }
