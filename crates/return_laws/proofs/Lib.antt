@@ -3,6 +3,8 @@ pub mod Copied
 pub mod Fitting
 pub mod Groups
 pub mod Heard
+pub mod Limits
+pub mod Logs
 pub mod Matching
 pub mod Pieces
 pub mod Plans
@@ -11,7 +13,6 @@ pub mod Released
 pub mod Repaired
 pub mod Returned
 pub mod Sayable
-pub mod Sizes
 pub mod Sounding
 pub mod Spread
 pub mod Streamed

@@ -1,8 +1,8 @@
 -- A session of a recording that takes what a plan sends hears all of it.
 use Rattle.std.proofs.Common.{◌≡◌, ℕ, ◌+◌, ◌*◌, ◌≤◌, ap, ◌∙◌, subst, arith, Option, None, Some, inl, inr, ◌⊎◌}
 use Rattle.amr_frame.specs.Profiles.{group_bound}
+use Rattle.return_laws.proofs.Limits.{limits}
 use Rattle.return_laws.proofs.Plans.{Facts, FitsGroups}
-use Rattle.return_laws.proofs.Sizes.{limits}
 use Rattle.return_laws.specs.Recordings.{HoldsGroup, IsRecording, Takes}
 use Rattle.return_laws.specs.Sessions.{Hears, span}
 use Rattle.spec_record.specs.Recording.{Recording}

@@ -1,22 +1,21 @@
 -- The log of packets that are sent is recorded as the file of what a session releases of them.
 use Rattle.std.proofs.Common.{◌≡◌, ℕ, ◌+◌, ◌≤◌, Bool, true, false, cond, List, [], ◌∷◌, ◌++◌, length, map, sym, refl, ap, ◌∙◌, subst}
-use Rattle.std.specs.Prelude.{nat_eq}
+use Rattle.std.specs.Prelude.{nat_eq, take}
 use Rattle.std.specs.List.{range_with_len, AllByRecursion}
 use Rattle.std.proofs.lemmas.Bool.{le-ltb}
-use Rattle.std.proofs.lemmas.List.{append-nil, take_all}
+use Rattle.std.proofs.lemmas.List.{take_all}
 use Rattle.amr_frame.specs.Frames.{Frame}
 use Rattle.amr_frame.specs.Profiles.{IsValid}
 use Rattle.amr_frame.specs.declared.profile.Profile.{Profile}
-use Rattle.record_reader.proofs.LogCut.{cut_one}
 use Rattle.return_laws.proofs.Alike.{alike_is, like}
 use Rattle.return_laws.proofs.Groups.{groups_parts}
+use Rattle.return_laws.proofs.Logs.{whole_cut}
 use Rattle.return_laws.proofs.Matching.{hears}
 use Rattle.return_laws.proofs.Pieces.{all_left, pieces_run, run_parts}
 use Rattle.return_laws.proofs.Plans.{Facts, facts}
 use Rattle.return_laws.proofs.Released.{left_released, sent_released}
 use Rattle.return_laws.proofs.Repaired.{all_of, all_sent, portion_of, unnumbered_all}
 use Rattle.return_laws.proofs.Sayable.{IsSayable, groups_sayable, is_value, runs_sayable}
-use Rattle.return_laws.proofs.Sizes.{are_records}
 use Rattle.return_laws.proofs.Sounding.{IsTaken, heard_all}
 use Rattle.return_laws.specs.Carrying.{CarryAll}
 use Rattle.return_laws.specs.Recordings.{IsRecording, RecordsAs, Takes, file_of, left_log}
@@ -24,7 +23,7 @@ use Rattle.return_laws.specs.Sessions.{AreSent, Releases}
 use Rattle.rtp_packet.specs.Written.{written}
 use Rattle.run_report.specs.declared.end.RunEnd.TheVariants.{LimitReached}
 use Rattle.sending_laws.proofs.Portioned.{IsPart}
-use Rattle.spec_packet.specs.Log.{AreRecords, cut, log_of}
+use Rattle.spec_packet.specs.Log.{Cut, cut, log_of}
 use Rattle.spec_payload.specs.Values.{IsValue}
 use Rattle.spec_record.specs.Recording.{Recording, heard}
 use Rattle.spec_record.specs.Recording.{file_of as recorded_file}
@@ -78,21 +77,9 @@ values s q b [] are enough k = tt
 values s q b (x ∷ xs) are enough k =
     (is_value s q b x.1 (facts s are.plan) are.all are.blocks enough k.0.0 k.0.1, values s q b xs are enough k.1)
 
--- a log of records is cut into these
-whole_cut : (records : List (List ℕ)) → AreRecords records
-    → ((cut (log_of records)).packets ≡ records) × ((cut (log_of records)).rest ≡ [])
-whole_cut records short = cut_one (log_of records) records []
-    (record { join = sym (append-nil (log_of records)); short = short; partial = tt })
-
 -- the records of packets that are sent
 abbrev recorded : SendPlan → List (List Frame) → List (ℕ × Portion) → List (List ℕ)
 recorded s b xs = map written (map (packet_of s b) xs)
-
-sizes : (s : SendPlan) (b : List (List Frame)) (xs : List (ℕ × Portion)) → AreSent s b → AreSendable s b xs
-    → AreRecords (recorded s b xs)
-sizes s b xs are k =
-    let plan = facts s are.plan in
-    are_records s b xs plan.format (values s s.profile b xs are plan.most k)
 
 -- a recording that takes them hears just what is sent
 all_heard : (r : Recording) (s : SendPlan) (b : List (List Frame)) (xs : List (ℕ × Portion)) → IsRecording r
@@ -117,17 +104,17 @@ file_is r s b records ok are takes e =
     ∙ ap (λ n. storage_file s.profile.codec n (released r.rules (heard r records))) h.channels
     ∙ ap (storage_file s.profile.codec s.profile.channels) e
 
--- a log within the limit is recorded to its end, as the file of its records
-log_recorded : (r : Recording) (limit : ℕ) (records : List (List ℕ)) (file : List ℕ) → AreRecords records
+-- a log of records within the limit is recorded to its end, as the file of these
+pub log_recorded : (r : Recording) (limit : ℕ) (records : List (List ℕ)) (file : List ℕ)
     → length (log_of records) ≤ limit → recorded_file r records ≡ file → RecordsAs r limit (log_of records) file
-log_recorded r limit records file short few e =
+log_recorded r limit records file few e =
     let log = log_of records in
-    let all = take_all limit log few in
-    let c = whole_cut records short in
+    let c : cut (take limit log) ≡ record { packets = records; rest = [] } =
+    ap cut (take_all limit log few) ∙ whole_cut records in
     record {
       done = ap (λ v. cond v LimitReached (rest_end (rest_of limit log))) (le-ltb limit (length log) few)
-          ∙ ap (λ l. rest_end (cut l).rest) all ∙ ap rest_end c.1;
-      out = ap (λ l. recorded_file r (cut l).packets) all ∙ ap (recorded_file r) c.0 ∙ e;
+          ∙ ap (λ (c : Cut). rest_end c.rest) c;
+      out = ap (λ (c : Cut). recorded_file r c.packets) c ∙ e;
     }
 
 -- packets of which all blocks are released
@@ -136,7 +123,7 @@ released_recorded : (r : Recording) (limit : ℕ) (s : SendPlan) (b : List (List
     → Releases r.rules (map (heard_of s b) xs) b → length (log_of (recorded s b xs)) ≤ limit
     → RecordsAs r limit (log_of (recorded s b xs)) (file_of s b)
 released_recorded r limit s b xs ok are takes k all few =
-    log_recorded r limit (recorded s b xs) (file_of s b) (sizes s b xs are k) few
+    log_recorded r limit (recorded s b xs) (file_of s b) few
     (file_is r s b (recorded s b xs) ok are takes
     (ap (released r.rules) (all_heard r s b xs ok are takes k) ∙ all.blocks))
 

@@ -5,9 +5,9 @@ use Rattle.std.proofs.lemmas.List.{take_all}
 use Rattle.amr_frame.proofs.FirstLemmas.{first_none}
 use Rattle.amr_frame.specs.Frames.{Frame}
 use Rattle.payload_laws.proofs.Formats.{channels_of}
+use Rattle.return_laws.proofs.Limits.{limits}
 use Rattle.return_laws.proofs.Plans.{facts}
 use Rattle.return_laws.proofs.Recorded.{sent_recorded}
-use Rattle.return_laws.proofs.Sizes.{limits}
 use Rattle.return_laws.specs.Recordings.{ComesBack, IsRecording, RecordsAs, Takes, file_of}
 use Rattle.return_laws.specs.Sessions.{AreSent}
 use Rattle.run_report.specs.declared.end.RunEnd.TheVariants.{Done}
