@@ -1,3 +1,4 @@
+pub mod Accepted
 pub mod Alike
 pub mod Copied
 pub mod Fitting
@@ -6,6 +7,7 @@ pub mod Heard
 pub mod Limits
 pub mod Logs
 pub mod Matching
+pub mod Ordered
 pub mod Pieces
 pub mod Plans
 pub mod Recorded

@@ -1,3 +1,5 @@
 pub mod Carrying
+pub mod Ordering
 pub mod Recordings
 pub mod Sessions
+pub mod Strangers
