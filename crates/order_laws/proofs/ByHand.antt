@@ -41,7 +41,6 @@ pub first_in_time : AllInTime rules first
 first_in_time = record {
   taken = record {
     all = refl;
-    one = refl;
     narrow = narrow_from rules (accepted rules first) (pos 0 ∷ pos 1 ∷ pos 1 ∷ []) (pos 0) (pos 1) (omega (arith, ints)) first_places ((omega (arith, ints), omega (arith, ints)), ((omega (arith, ints), omega (arith, ints)), ((omega (arith, ints), omega (arith, ints)), tt)));
   };
   timely = refl;
@@ -51,7 +50,6 @@ pub other_in_time : AllInTime rules other
 other_in_time = record {
   taken = record {
     all = refl;
-    one = refl;
     narrow = narrow_from rules (accepted rules other) (pos 0 ∷ negsuc 0 ∷ pos 0 ∷ negsuc 0 ∷ []) (negsuc 0) (pos 0) (omega (arith, ints)) other_places ((omega (arith, ints), omega (arith, ints)), ((omega (arith, ints), omega (arith, ints)), ((omega (arith, ints), omega (arith, ints)), ((omega (arith, ints), omega (arith, ints)), tt))));
   };
   timely = refl;

@@ -6,3 +6,4 @@ pub mod Moved
 pub mod Places
 pub mod Released
 pub mod Standing
+pub mod Unbroken

@@ -11,6 +11,7 @@ use Rattle.amr_frame.specs.Tables.{ticks}
 use Rattle.order_laws.specs.Order.{AllAccepted, AreMovedBy, HaveTheSame, IsNarrow, StandsIn}
 use Rattle.order_laws.proofs.Members.{all_in, from_map, in_map}
 use Rattle.order_laws.proofs.Standing.{are_the_packets}
+use Rattle.order_laws.proofs.Unbroken.{one_of_all}
 use Rattle.segment_laws.proofs.Placing.{segments_of}
 use Rattle.segment_laws.proofs.Single.{last_is, same_accepted}
 use Rattle.segment_laws.specs.One.{packets}
@@ -56,11 +57,11 @@ grid_of rules (a ∷ rest) k =
 
 last_segment : (rules : Rules) (h : List Packet) → AllAccepted rules h → IsSegment rules (segments rules h).last
 last_segment rules h k =
-    (subst (AllByRecursion (IsSegment rules)) (ap (λ c. c ++ (segments rules h).last ∷ []) k.one) (segments_of rules h)).0
+    (subst (AllByRecursion (IsSegment rules)) (ap (λ c. c ++ (segments rules h).last ∷ []) (one_of_all rules h k.all)) (segments_of rules h)).0
 
 grid_in : (rules : Rules) (h : List Packet) → AllAccepted rules h → HasGrid rules (accepted rules h)
 grid_in rules h k =
-    subst (HasGrid rules) (last_is rules h k.one ∙ sym (same_accepted rules h k.one))
+    subst (HasGrid rules) (last_is rules h (one_of_all rules h k.all) ∙ sym (same_accepted rules h (one_of_all rules h k.all)))
     (grid_of rules (segments rules h).last (last_segment rules h k))
 
 -- two timestamps are as far apart as their places on either grid are, which is less than half a turn

@@ -7,6 +7,7 @@ use Rattle.order_laws.proofs.Copies.{Moves, copies_move}
 use Rattle.order_laws.proofs.Moved.{released_alike}
 use Rattle.order_laws.proofs.Places.{moved_alike, other}
 use Rattle.order_laws.proofs.Standing.{are_the_packets, frame_in_time}
+use Rattle.order_laws.proofs.Unbroken.{one_of_all}
 use Rattle.segment_laws.proofs.Single.{same_accepted, same_released}
 use Rattle.spec_segments.specs.Release.{released}
 use Rattle.spec_segments.specs.Segments.{accepted}
@@ -18,8 +19,8 @@ use Rattle.spec_session.specs.Session.{Rules, Accepted}
 released_by : (rules : Rules) (h : List Packet) → AllInTime rules h →
     released rules h ≡ released_of rules (copies_of rules (accepted rules h))
 released_by rules h c =
-    same_released rules h c.taken.one
-    ∙ ap (λ acc. released_of rules (copies_of rules acc)) (sym (same_accepted rules h c.taken.one))
+    same_released rules h (one_of_all rules h c.taken.all)
+    ∙ ap (λ acc. released_of rules (copies_of rules acc)) (sym (same_accepted rules h (one_of_all rules h c.taken.all)))
 
 stepped_back : (p q d : ℤ) → p +ℤ d ≡ q → q +ℤ (pos 0 -ℤ d) ≡ p
 stepped_back p q d e = omega (arith, ints)

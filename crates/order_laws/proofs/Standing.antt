@@ -8,6 +8,7 @@ use Rattle.std.proofs.lemmas.List.Sums.{sum-map, sum_by-cons}
 use Rattle.std.proofs.lemmas.Nat.{div_below}
 use Rattle.order_laws.specs.Order.{AllAccepted, AllInTime, HasWholeBlocks, HaveWholeBlocks, StandsIn}
 use Rattle.order_laws.proofs.Members.{all_in, in_map, in_range, none_kept}
+use Rattle.order_laws.proofs.Unbroken.{one_of_all}
 use Rattle.segment_laws.proofs.Alone.{accepts_it}
 use Rattle.segment_laws.proofs.Single.{same_accepted}
 use Rattle.segment_laws.specs.One.{packets}
@@ -58,7 +59,7 @@ all_taken rules now (x ∷ h) e =
 
 pub are_the_packets : (rules : Rules) (h : List Packet) → AllAccepted rules h → packets (accepted rules h) ≡ h
 are_the_packets rules h k =
-    let same = same_accepted rules h k.one in
+    let same = same_accepted rules h (one_of_all rules h k.all) in
     ap packets same ∙ all_taken rules [] h (ap length (sym same) ∙ k.all ∙ omega arith)
 
 -- a sum of 0 has no other part

@@ -4,7 +4,6 @@ use Rattle.std.specs.Prelude.{◌≡◌, ◌⊎◌, ◌*◌, ◌^◌, List, [], 
 use Rattle.std.specs.Prelude.{ℤ, pos, ◌-ℤ◌, ◌*ℤ◌, ◌<ℤ◌, ◌+ℤ◌}
 use Rattle.std.specs.List.{AllByRecursion}
 use Rattle.amr_frame.specs.Tables.{ticks}
-use Rattle.segment_laws.specs.One.{IsOneSegment}
 use Rattle.spec_segments.specs.Counts.{late_count}
 use Rattle.spec_segments.specs.Segments.{accepted}
 use Rattle.spec_session.specs.Packets.{Packet}
@@ -36,11 +35,10 @@ abbrev pub IsNarrow : Rules → List Accepted → Type 0
 IsNarrow rules acc = (a b : Accepted) → StandsIn a acc → StandsIn b acc
     → (pos (ticks rules.codec) *ℤ (a.place -ℤ b.place)) <ℤ pos (2 ^ 31)
 
--- each of the packets is accepted, no packet but the first begins a segment, and the places span
--- less than half a turn of the timestamps
+-- each of the packets is accepted, so that no packet but the first begins a segment, and the places
+-- span less than half a turn of the timestamps
 pub record AllAccepted (rules : Rules) (h : List Packet) : Type 0 where
   pub all : length (accepted rules h) ≡ length h
-  pub one : IsOneSegment rules h
   pub narrow : IsNarrow rules (accepted rules h)
 
 -- so it is, and no block is late

@@ -7,8 +7,8 @@ ghost use Rattle.spec_session.specs.Session.{Rules};
 ghost use Rattle.std.specs.Prelude.{◌≡◌, List, ℤ};
 
 /// The same packets in any order and with any repeats have the same places but for one constant,
-/// where in both orders each is accepted in one segment and the places span less than 2^31 ticks.
-/// Blocks may be late.
+/// where in both orders each is accepted and the places span less than 2^31 ticks. Blocks may be
+/// late.
 pub fn another_order_moves_all_places_alike()
     ensures { (rules : Rules) (h k : List Packet) → HaveTheSame h k
         → AllAccepted rules h → AllAccepted rules k
@@ -16,8 +16,8 @@ pub fn another_order_moves_all_places_alike()
 {}
 
 /// The same packets of whole blocks, in any order and with any repeats, release the same blocks,
-/// where in both orders each is accepted in one segment, no block is late, and the places span less
-/// than 2^31 ticks.
+/// where in both orders each is accepted, no block is late, and the places span less than 2^31
+/// ticks.
 pub fn another_order_releases_the_same()
     ensures { (rules : Rules) (h k : List Packet) → HaveTheSame h k
         → HaveWholeBlocks rules h → AllInTime rules h → AllInTime rules k

@@ -12,8 +12,7 @@ pub fn records_hold_whole_blocks()
 {}
 
 /// The same records in any order and with any repeats give the same file, where in both orders each
-/// well-formed packet is accepted in one segment, no block is late, and the places span less than
-/// 2^31 ticks.
+/// well-formed packet is accepted, no block is late, and the places span less than 2^31 ticks.
 pub fn another_order_is_recorded_the_same()
     ensures { (r : Recording) (window reach : ℕ) (records others : List (List ℕ))
         → r.rules ≡ rules_of r.profile window reach → HaveTheSame records others

@@ -8,7 +8,7 @@ use Rattle.spec_run.specs.LogRuns.{records_of}
 abbrev pub HoldTheSame : ℕ → List ℕ → List ℕ → Type 0
 HoldTheSame limit log other = HaveTheSame (records_of limit log) (records_of limit other)
 
--- each well-formed packet among the records is accepted, in one segment, no block is late, and the
--- places span less than 2^31 ticks
+-- each well-formed packet among the records is accepted, no block is late, and the places span less
+-- than 2^31 ticks
 abbrev pub IsInTime : Recording → ℕ → List ℕ → Type 0
 IsInTime r limit log = AllInTime r.rules (heard r (records_of limit log))

@@ -7,8 +7,8 @@ ghost use Rattle.spec_session.specs.Session.{rules_of};
 ghost use Rattle.std.specs.Prelude.{◌≡◌, List, ℕ};
 
 /// Logs that hold the same records, in any order and with any repeats, are recorded as the same
-/// file, where in both each well-formed packet is accepted in one segment, no block is late, and
-/// the places span less than 2^31 ticks.
+/// file, where in both each well-formed packet is accepted, no block is late, and the places span
+/// less than 2^31 ticks.
 pub fn logs_in_any_order_are_recorded_the_same()
     ensures { (r : Recording) (limit window reach : ℕ) (log other : List ℕ)
         → r.rules ≡ rules_of r.profile window reach → HoldTheSame limit log other
