@@ -1,3 +1,4 @@
 pub mod Plans
 pub mod Returned
+pub mod Shared
 pub mod Texts

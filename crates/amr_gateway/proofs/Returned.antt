@@ -6,7 +6,8 @@ use Rattle.amr_frame.specs.Profiles.{group_bound}
 use Rattle.record_hearing.proofs.Plans.{format_valid}
 use Rattle.amr_gateway.specs.Jobs.{recording_meaning}
 use Rattle.record_hearing.specs.Jobs.{IsServed, recording_of}
-use Rattle.amr_gateway.specs.Returning.{PutsFile, ReturnsWhatIsSent, WorkedOff}
+use Rattle.amr_gateway.specs.Returning.{PutsFile, ReturnsWhatIsSent}
+use Rattle.amr_gateway.specs.WorkedOff.{WorkedOff}
 use Rattle.record_hearing.specs.declared.job.RecordJob.{RecordJob}
 use Rattle.amr_playout.proofs.Plans.{facts}
 use Rattle.amr_playout.specs.Plans.{most_together}
@@ -35,7 +36,7 @@ recording job served =
 
 -- what was recorded as a file was put out so
 put : (job : RecordJob) (w : Work) (s : SendPlan) (b : List (List Frame)) (log : List ℕ)
-    → Works (recording_meaning job) w → WorkedOff job w log
+    → Works (recording_meaning job) w → WorkedOff w log
     → RecordsAs (recording_of job) job.limit log (file_of s b) → PutsFile s b w
 put job w s b log works off r =
     let served = works.served off.finished log off.input in
@@ -48,8 +49,8 @@ pub returned : (job : RecordJob) (w : Work) → IsServed job → Works (recordin
 returned job w served works =
     let r = recording job served in
     record {
-      sent = λ s b are takes off. put job w s b _ works off
-          (sent_recorded (recording_of job) job.limit s b r are takes off.within);
-      repaired = λ s b kept are one takes all off. put job w s b _ works off
-          (left_recorded (recording_of job) job.limit s b kept r are one takes all off.within);
+      sent = λ s b are takes few off. put job w s b _ works off
+          (sent_recorded (recording_of job) job.limit s b r are takes few);
+      repaired = λ s b kept are one takes all few off. put job w s b _ works off
+          (left_recorded (recording_of job) job.limit s b kept r are one takes all few);
     }

@@ -1,3 +1,5 @@
 pub mod Jobs
+pub mod Ordering
 pub mod Returning
+pub mod WorkedOff
 pub mod Wrote

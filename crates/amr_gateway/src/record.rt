@@ -1,6 +1,7 @@
 // Recording a packet log as a storage file.
 ghost use Rattle.std.specs.Prelude.{◌≡◌};
 ghost use Rattle.amr_gateway.specs.Jobs.{recording_meaning};
+ghost use Rattle.amr_gateway.specs.Ordering.{IgnoresOrder};
 ghost use Rattle.amr_gateway.specs.Returning.{ReturnsWhatIsSent};
 ghost use Rattle.record_hearing.specs.Jobs.{IsServed};
 ghost use Rattle.run_report.specs.Lines.{no_counts};
@@ -27,6 +28,10 @@ const GATHERED: usize = 65536;
 /// A log that was sent for blocks, in a format of the same payloads and with no packet left out, is
 /// recorded as the file of these blocks. So is what is left of it where packets carry consecutive
 /// blocks and each block is in a packet that is left.
+///
+/// What it wrote is also the file of each log with the same records in any order and with any
+/// repeats, where in both logs each well-formed packet is accepted, no block is late, and the
+/// places span less than 2^31 ticks.
 pub fn record_log<I: Source, O: Sink>(
     alloc: Global,
     job: &RecordJob,
@@ -38,6 +43,8 @@ pub fn record_log<I: Source, O: Sink>(
     ensures works { Works (recording_meaning job.now)
         (work_of I.Source O.Sink input.old input.new output.old output.new result) }
     ensures returns { ReturnsWhatIsSent job.now
+        (work_of I.Source O.Sink input.old input.new output.old output.new result) }
+    ensures order { IgnoresOrder job.now
         (work_of I.Source O.Sink input.old input.new output.old output.new result) }
     ensures memory { result.end ≡ RunEnd.OutOfMemory
         → (input.new ≡ input.old) × (output.new ≡ output.old) }
