@@ -3,6 +3,7 @@ ghost use Rattle.std.specs.Prelude.{◌≡◌};
 ghost use Rattle.amr_gateway.specs.Jobs.{recording_meaning};
 ghost use Rattle.amr_gateway.specs.Ordering.{IgnoresOrder};
 ghost use Rattle.amr_gateway.specs.Returning.{ReturnsWhatIsSent};
+ghost use Rattle.amr_gateway.specs.Strangers.{IgnoresStrangers};
 ghost use Rattle.record_hearing.specs.Jobs.{IsServed};
 ghost use Rattle.run_report.specs.Lines.{no_counts};
 ghost use Rattle.spec_run.specs.Meanings.{Works, work_of};
@@ -31,7 +32,8 @@ const GATHERED: usize = 65536;
 ///
 /// What it wrote is also the file of each log with the same records in any order and with any
 /// repeats, where in both logs each well-formed packet is accepted, no block is late, and the
-/// places span less than 2^31 ticks.
+/// places span less than 2^31 ticks. Where no packet but the first begins a segment, it is also the
+/// file of the log of the accepted packets alone.
 pub fn record_log<I: Source, O: Sink>(
     alloc: Global,
     job: &RecordJob,
@@ -45,6 +47,8 @@ pub fn record_log<I: Source, O: Sink>(
     ensures returns { ReturnsWhatIsSent job.now
         (work_of I.Source O.Sink input.old input.new output.old output.new result) }
     ensures order { IgnoresOrder job.now
+        (work_of I.Source O.Sink input.old input.new output.old output.new result) }
+    ensures strangers { IgnoresStrangers job.now
         (work_of I.Source O.Sink input.old input.new output.old output.new result) }
     ensures memory { result.end ≡ RunEnd.OutOfMemory
         → (input.new ≡ input.old) × (output.new ≡ output.old) }

@@ -1,6 +1,6 @@
 use Rattle.std.proofs.Common.{◌≡◌, ◌∙◌, ℕ, subst, sym}
 use Rattle.amr_gateway.proofs.Returned.{returned}
-use Rattle.amr_gateway.proofs.Shared.{ignores_order}
+use Rattle.amr_gateway.proofs.Shared.{ignores_order, ignores_strangers}
 use Rattle.record_hearing.specs.Jobs.{recording_of}
 use Rattle.record_hearing.specs.Tallies.{counted_in_all}
 use Rattle.record_hearing.specs.declared.job.RecordJob.{RecordJob}
@@ -42,3 +42,10 @@ returns-clause-order g c =
     let report : RunReport = record { end = run.result; counts = c.counts.result } in
     let work = work_of g.I.Source g.O.Sink c.args.input.now run.new.input c.args.output.now c.output-1.given.0 report in
     ignores_order c.args.job.now work (returns-clause-works g c)
+
+pub returns-clause-strangers : goal.returns-clause-strangers
+returns-clause-strangers g c =
+    let run = c.run_records-end in
+    let report : RunReport = record { end = run.result; counts = c.counts.result } in
+    let work = work_of g.I.Source g.O.Sink c.args.input.now run.new.input c.args.output.now c.output-1.given.0 report in
+    ignores_strangers c.args.job.now work (returns-clause-works g c)
