@@ -2,7 +2,7 @@ mod Sums
 mod Division
 mod Registers
 mod Whole
-mod Counts
+pub mod Counts
 pub mod Rows
 mod Plain
 mod Moves

@@ -2,6 +2,7 @@ pub mod Copied
 pub mod Counted
 pub mod Gains
 pub mod Heard
+pub mod Merging
 pub mod Offers
 pub mod Plans
 pub mod Receiver

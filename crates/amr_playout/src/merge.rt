@@ -1,8 +1,9 @@
 // Merging the frames of a packet into the ring.
-ghost use Rattle.std.specs.Prelude.{◌≡◌, ◌+◌, ◌-◌, ◌*◌, ◌/◌, ◌^◌, ◌<◌, ◌≤◌, ◌⊎◌, ◌-ℤ◌, List, is_some, length, min, pos};
+ghost use Rattle.std.specs.Prelude.{◌≡◌, ◌+◌, ◌-◌, ◌*◌, ◌/◌, ◌^◌, ◌<◌, ◌≤◌, ◌⊎◌, ◌-ℤ◌, List, is_some, length, min, pos, true};
 ghost use Rattle.amr_frame.specs.Cells.{frame_of};
 ghost use Rattle.amr_playout.specs.Copied.{CanMerge, HoldsBest, IsPast, Merges, TakesCopies, copy_past, newly};
 ghost use Rattle.amr_playout.specs.Heard.{IsReadBy};
+ghost use Rattle.amr_playout.specs.Merging.{CanMergeAll, MergesAll};
 ghost use Rattle.amr_playout.specs.Plans.{rules_in};
 ghost use Rattle.amr_playout.specs.Ring.{IsRing};
 ghost use Rattle.amr_playout.specs.Standing.{IsFitting, last_from};
@@ -113,13 +114,54 @@ pub fn merge_all(
     ensures few { result.copies ≤ length (viewed payload.now).frames }
     ensures ring { IsRing plan.now ring.new }
 {
+    if plan.profile.sorting {
+        return merge_sorted(ring, plan, base, edge, place, payload, next);
+    }
+    merge_walked::<0>(ring, plan, base, edge, place, payload, next)
+}
+
+/// Merges the frames of a packet as `merge_all` does. It has the rows of a format that sorts the octets, so that the
+/// way of other formats needn't clear them.
+#[inline(never)]
+fn merge_sorted(
+    ring: &mut HeapCircularBuffer<Cell>,
+    plan: &Plan,
+    base: u64,
+    edge: u64,
+    place: u64,
+    payload: &PayloadView<'_>,
+    next: u64,
+) -> Merged
+    requires ready { CanMergeAll plan.now base edge place payload.now ring.old }
+
+    ensures { MergesAll plan.now base edge place payload.now next ring.old ring.new result }
+{
+    merge_walked::<60>(ring, plan, base, edge, place, payload, next)
+}
+
+/// Merges the frames of a packet as `merge_all` does, by a walk with so many rows.
+#[inline(always)]
+fn merge_walked<const ROWS: usize>(
+    ring: &mut HeapCircularBuffer<Cell>,
+    plan: &Plan,
+    base: u64,
+    edge: u64,
+    place: u64,
+    payload: &PayloadView<'_>,
+    next: u64,
+) -> Merged
+    requires ready { CanMergeAll plan.now base edge place payload.now ring.old }
+    requires rows { (plan.now.profile.sorting ≡ true → ROWS ≡ 60) × (ROWS ≤ 60) }
+
+    ensures { MergesAll plan.now base edge place payload.now next ring.old ring.new result }
+{
     let channels = plan.profile.channels as usize;
     let stride = payload.stride();
     let mut merged = Merged { next, copies: 0 };
-    let mut walked = payload.first_place();
+    let mut walk = payload.walk::<ROWS>();
     for index in 0..payload.frames() {
         let spot = place + share_of(index, channels) as u64 * stride as u64;
-        let frame = payload.next_frame(index, &mut walked);
+        let frame = payload.next_frame(index, &mut walk);
         let channel = channel_of(index, channels);
         merged = merge_past(ring, plan, base, edge, spot, channel, &frame, merged);
     }

@@ -16,7 +16,7 @@ use Rattle.amr_toc.specs.Frames.{HasType, IsRun}
 use Rattle.amr_toc.specs.Lists.{listed, types_of}
 use Rattle.amr_toc.specs.Places.{octet_place, sizes_in}
 use Rattle.amr_toc.specs.Viewed.{checks_to, frame_in, said, standing, viewed}
-use Rattle.amr_toc.specs.Walks.{StandsAt, begins_at}
+use Rattle.amr_toc.specs.Walks.{begins_at}
 use Rattle.amr_toc.proofs.CheckPlaces.{check_place, check_stands, filled_type}
 use Rattle.amr_toc.proofs.Shown.{frame_is, in_entries, in_table, length_bits, size_of, types_are}
 use Rattle.amr_toc.proofs.Sizes.{listed_count, most_octets}
@@ -118,9 +118,9 @@ pub run_long : (view : PayloadView) (k ft n : ℕ) (lent : BitSlice) → IsRun v
 run_long view k ft n lent is long = sym long ∙ ap length is.bits
 
 -- the next frame begins behind this one
-pub stands_on : (view : PayloadView) (k ft place room : ℕ) → HasType view k ft → StandsAt view place k
-    → room ≡ room_in view.profile ft → room ≤ 480 → StandsAt view (place + room) (k + 1)
-stands_on view k ft place room kind at size most =
+pub begins_behind : (view : PayloadView) (k ft place room : ℕ) → HasType view k ft → place ≡ begins_at view k
+    → room ≡ room_in view.profile ft → place + room ≡ begins_at view (k + 1)
+begins_behind view k ft place room kind start size =
     let p = view.profile in
     let octets = view.octets.now in
     let es = listed view.toc in
@@ -131,9 +131,7 @@ stands_on view k ft place room kind at size most =
     (in_listed view k kind.exists) in
     let more = walk_goes_on p (types_of es) k inside in
     let here = ap (room_in p) same in
-    let start = at.start in
-    let few = at.few in
-    record { start = omega arith; few = omega arith }
+    omega arith
 
 -- the CRC of the frame, behind the header, the table and the CRCs before
 pub check_in : (view : PayloadView) (k header n before : ℕ) → k < length (viewed view).frames → view.profile.crc ≡ true

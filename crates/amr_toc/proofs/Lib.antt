@@ -3,11 +3,13 @@ pub mod CheckPlaces
 pub mod Ends
 pub mod EntryBits
 pub mod InPayload
+pub mod InRows
 pub mod InView
 pub mod Filling
 pub mod Marked
 pub mod Orders
 pub mod Reading
+pub mod Rows
 pub mod Settled
 pub mod Shown
 pub mod Sizes

@@ -106,6 +106,10 @@ front_is xs ys n l m h =
     let len : length (take n xs) ≡ n = length-take-le n xs m in
     ext_get_or 0 (take n xs) ys (len ∙ sym l) (λ i lt. get_or-take n xs i 0 (omega arith) ∙ h i (omega arith))
 
+-- as many frames as entries
+pub sizes_long : (codec : Codec) (es : List Entry) → length (map (octets_in codec) (types_of es)) ≡ length es
+sizes_long codec es = length-map (types_of es) (octets_in codec) ∙ length-map es (λ (x : Entry). x.ft)
+
 -- the octets of frame k
 pub octets_at : (codec : Codec) (es : List Entry) (k : ℕ) (e : Entry) → k < length es → e ≡ get_or es k e → octets_in codec e.ft ≡ get_or (map (octets_in codec) (types_of es)) k 0
 octets_at codec es k e h at =

@@ -6,6 +6,7 @@ pub mod Frames
 pub mod Lists
 pub mod Payloads
 pub mod Places
+pub mod Rows
 pub mod Table
 pub mod Told
 pub mod Viewed

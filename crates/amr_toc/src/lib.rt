@@ -11,6 +11,7 @@ mod read;
 #[cfg(test)]
 mod tests;
 mod view;
+mod walk;
 mod write;
 
 pub use checks::check_over;
@@ -22,4 +23,5 @@ pub use payload::Payload;
 pub use read::{entries_within, read_toc};
 pub use spec_payload::PayloadRefusal;
 pub use view::PayloadView;
+pub use walk::Walk;
 pub use write::{entries_of, write_toc};

@@ -14,6 +14,7 @@ use crate::counts::{bits_before, checks_of, filled_before, octet_counts, octets_
 use crate::entry::{Entry, Toc};
 use crate::header::{header_octets, interleaving_number};
 use crate::octets::{are_octets, octet_in};
+use crate::walk::{Walk, begin_rows, gather};
 use amr_bits::BitSlice;
 use amr_frame::{Cell, Profile, bits_of, octets_of};
 use amr_guard::sorted_place;
@@ -38,7 +39,7 @@ impl<'a> PayloadView<'a> {
     ghost use Rattle.amr_toc.specs.Frames.{HasCheck, HasGathered, HasSorted, HasType, InPlain, InSorted, IsEntry, IsGathered, IsLent, IsRun, ShowsFrame};
     ghost use Rattle.amr_toc.specs.Told.{Accepts, IsTableOf, Reads};
     ghost use Rattle.amr_toc.specs.Viewed.{checks_to, format_of, frame_in, is_damaged, octets_of, said, standing, viewed};
-    ghost use Rattle.amr_toc.specs.Walks.{StandsAt, begins_at};
+    ghost use Rattle.amr_toc.specs.Walks.{RowsAt, StandsAt, begins_at};
 
     /// What a reader tells of a payload's octets: their view, where it read their table and they aren't
     /// refused, or why they are.
@@ -208,26 +209,54 @@ impl<'a> PayloadView<'a> {
         self.frame_from(at, self.entry(at), self.start_of(at))
     }
 
-    /// Where the first frame begins, for `next_frame`.
-    pub fn first_place(&self) -> usize
+    /// A walk that stands before the first frame, for `next_frame`.
+    #[inline(always)]
+    pub fn walk<const ROWS: usize>(&self) -> Walk<ROWS>
+        requires rows { (format_of self.now).sorting ≡ true → ROWS ≡ 60 }
         ensures { StandsAt self.now result 0 }
     {
-        self.body
+        let mut walk = Walk {
+            place: self.body,
+            rows: [0; ROWS],
+        };
+        if !self.profile.sorting {
+            return walk;
+        }
+        begin_rows(&self.profile, &self.toc, self.body / 8, &mut walk.rows);
+        walk
     }
 
-    /// Frame `at`, as `frame` gives it, where the frames before were walked and it begins at `place`. Then `place` is that
-    /// of the frame behind it. It doesn't look at the frames before, unless the format has CRCs or sorts the octets.
-    pub fn next_frame(&self, at: usize, place: &mut usize) -> Cell
+    /// Frame `at`, as `frame` gives it, where the walk has passed the frames before, and then passes it too. It doesn't
+    /// look at the frames before, unless the format has CRCs.
+    pub fn next_frame<const ROWS: usize>(&self, at: usize, walk: &mut Walk<ROWS>) -> Cell
         requires frame { at < length (viewed self.now).frames }
-        requires stands { StandsAt self.now place.old at }
+        requires stands { StandsAt self.now walk.old at }
         ensures frame { held result ≡ Some (frame_in (viewed self.now) at) }
         ensures valid { IsCell (format_of self.now).codec result }
-        ensures stands { StandsAt self.now place.new (at + 1) }
+        ensures stands { StandsAt self.now walk.new (at + 1) }
     {
         let entry = self.entry(at);
-        let start = *place;
-        *place += self.room_of(entry.ft);
-        self.frame_from(at, entry, start)
+        let start = walk.place;
+        walk.place += self.room_of(entry.ft);
+        if !self.profile.sorting {
+            return self.seen_as(at, entry, self.run_from(at, entry.ft, start));
+        }
+        self.next_sorted(at, entry, &mut walk.rows)
+    }
+
+    /// Frame `at` of a payload whose octets are sorted, which has this entry and before which the rows stand. Then they
+    /// stand behind it.
+    #[inline(never)]
+    fn next_sorted(&self, at: usize, entry: Entry, rows: &mut [u16]) -> Cell
+        requires entry { IsEntry self.now at entry }
+        requires sorted { self.now.profile.sorting ≡ true }
+        requires rows { RowsAt self.now at rows.old }
+        ensures frame { ShowsFrame self.now at result }
+        ensures rows { RowsAt self.now (at + 1) rows.new }
+    {
+        let count = octets_of(self.profile.codec, entry.ft);
+        let gathered = gather(self.octets, count, rows);
+        self.seen_as(at, entry, self.run_in(at, entry.ft, &gathered))
     }
 
     /// How many bits of the body a frame of this type takes up.

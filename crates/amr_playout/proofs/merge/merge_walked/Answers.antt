@@ -1,6 +1,7 @@
 use Rattle.std.proofs.Common.{◌≡◌, ℕ, ◌+◌, ◌*◌, ◌-◌, ◌≤◌, ◌<◌, ◌/◌, ◌%◌, ◌++◌, [], length, arith, sym, ap, ◌∙◌, subst, inl, inr}
 use Rattle.std.proofs.lemmas.Nat.{mul-le}
 use Rattle.amr_frame.specs.Cells.{frame_of}
+use Rattle.amr_frame.specs.declared.profile.Profile.{Profile}
 use Rattle.amr_frame.specs.Frames.{Frame}
 use Rattle.amr_playout.proofs.Plans.{facts}
 use Rattle.amr_playout.proofs.Taking.{block_of, frame_more, held_frame, taken_more, taken_none}
@@ -10,18 +11,18 @@ use Rattle.amr_playout.specs.Window.{at}
 use Rattle.amr_toc.specs.Viewed.{viewed}
 use Rattle.spec_payload.specs.Values.{Value}
 use Rattle.spec_session.specs.Session.{Rules}
-use Rattle.amr_playout.proofs.merge.merge_all.Goals as goal
+use Rattle.amr_playout.proofs.merge.merge_walked.Goals as goal
 
 pub loop-index-init : goal.loop-index-init
-loop-index-init c = record {
-  merged = λ a past. taken_none c.args.plan.now c.args.base c.args.ring.now _ c.requires.ring;
+loop-index-init g c = record {
+  merged = λ a past. taken_none c.args.plan.now c.args.base c.args.ring.now _ c.requires.ready.ring;
   few = omega arith;
-  stands = c.first_place-walked.ensures;
-  ring = c.requires.ring;
+  stands = c.walk-walk.ensures;
+  ring = c.requires.ready.ring;
 }
 
 pub loop-index-preserved : goal.loop-index-preserved
-loop-index-preserved c =
+loop-index-preserved g c =
     let rules : Rules = rules_in c.args.plan.now in
     let v : Value = viewed c.args.payload.now in
     let n : ℕ = rules.channels in
@@ -53,7 +54,7 @@ loop-index-preserved c =
     }
 
 pub merge_past-merged-requires-clause-within : goal.merge_past-merged-requires-clause-within
-merge_past-merged-requires-clause-within c =
+merge_past-merged-requires-clause-within g c =
     let v : Value = viewed c.args.payload.now in
     let n : ℕ = c.args.plan.now.profile.channels in
     let i : ℕ = c.loop-index.index in
@@ -62,33 +63,51 @@ merge_past-merged-requires-clause-within c =
     let stride = c.stride-stride.ensures in
     let t = c.loop-index-test.true in
     let lt : i < length v.frames = omega (arith, t, count) in
-    let some : 0 < n = (facts c.args.plan.now c.requires.ring.planned).some in
-    let low : i / n ≤ length v.frames / n - 1 = block_of n (length v.frames) i some lt c.requires.fitting.whole in
+    let some : 0 < n = (facts c.args.plan.now c.requires.ready.ring.planned).some in
+    let low : i / n ≤ length v.frames / n - 1 = block_of n (length v.frames) i some lt c.requires.ready.fitting.whole in
     let le : (i / n) * s ≤ (length v.frames / n - 1) * s =
     mul-le (i / n) s (length v.frames / n - 1) s low (omega arith) in
     let same : (length v.frames / n - 1) * s ≡ (length v.frames / n - 1) * v.stride =
     ap (λ k. (length v.frames / n - 1) * k) stride in
     let block : c.share_of.result * s ≡ (i / n) * s = ap (λ k. k * s) c.share_of.ensures in (
-      (λ past. elim c.requires.low [ inl here ↦ omega (arith, here) | inr old ↦ omega (arith, old, past) ]),
-      omega (arith, c.requires.high, le, same, block),
+      (λ past. elim c.requires.ready.low [ inl here ↦ omega (arith, here) | inr old ↦ omega (arith, old, past) ]),
+      omega (arith, c.requires.ready.high, le, same, block),
     )
 
 pub merge_past-merged-requires-clause-few : goal.merge_past-merged-requires-clause-few
-merge_past-merged-requires-clause-few c =
+merge_past-merged-requires-clause-few g c =
     let few = c.loop-index.invariant.few in
     let t = c.loop-index-test.true in
     let count = c.frames-index-end.ensures.frames in
-    let most = c.requires.fitting.few in
+    let most = c.requires.ready.fitting.few in
     omega (arith, few, t, count, most)
 
-pub returns-clause-merged : goal.returns-clause-merged
-returns-clause-merged c = λ a past.
+pub walk-walk-requires : goal.walk-walk-requires
+walk-walk-requires g c = (
+  omega (arith, c.requires.rows.1),
+  λ sorted. c.requires.rows.0 (ap (λ (p : Profile). p.sorting) (sym c.requires.ready.read.format) ∙ sorted),
+)
+
+pub next_frame-frame-requires : goal.next_frame-frame-requires
+next_frame-frame-requires g c = (
+  omega (arith, c.requires.rows.1),
+  (omega (arith, c.loop-index-test.true, c.frames-index-end.ensures.frames), c.loop-index.invariant.stands),
+)
+
+pub returns : goal.returns
+returns g c =
     let t = c.loop-index-test.false in
     let e = c.loop-index.auto.index-end in
     let count = c.frames-index-end.ensures.frames in
-    let size : length (viewed c.args.payload.now).frames ≡ length a.packet.value.frames =
-    ap (λ (w : Value). length w.frames) (sym past.value) in
-    let end : c.loop-index.index ≡ length a.packet.value.frames = omega (arith, size, t, e, count) in
-    subst (λ k. TakesCopies c.args.plan.now c.args.base c.args.ring.now c.loop-index.ring
-    (record { next = c.args.next; copies = 0 }) c.loop-index.merged (copies_to (rules_in c.args.plan.now) a k)) end
-    (c.loop-index.invariant.merged a past)
+    let inv = c.loop-index.invariant in
+    record {
+      merged = λ a past.
+          (let size : length (viewed c.args.payload.now).frames ≡ length a.packet.value.frames =
+          ap (λ (w : Value). length w.frames) (sym past.value) in
+          let end : c.loop-index.index ≡ length a.packet.value.frames = omega (arith, size, t, e, count) in
+          subst (λ k. TakesCopies c.args.plan.now c.args.base c.args.ring.now c.loop-index.ring
+          (record { next = c.args.next; copies = 0 }) c.loop-index.merged (copies_to (rules_in c.args.plan.now) a k)) end
+          (inv.merged a past));
+      few = (let few = inv.few in omega arith);
+      ring = inv.ring;
+    }

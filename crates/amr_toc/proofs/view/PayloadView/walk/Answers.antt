@@ -1,0 +1,18 @@
+use Rattle.std.proofs.Common.{arith}
+use Rattle.amr_toc.specs.Lists.{listed, types_of}
+use Rattle.amr_toc.proofs.Walking.{walk_begins}
+use Rattle.amr_toc.proofs.view.PayloadView.walk.Goals as goal
+
+pub returns-then-not-self : goal.returns-then-not-self
+returns-then-not-self g c =
+    let v = c.args.self.now in
+    let none = walk_begins v.profile (types_of (listed v.toc)) in
+    let short = v.short in
+    record { start = omega arith; few = omega arith; rows = λ sorted. (let plain = c.if-not-self.true in absurd cc) }
+
+pub returns : goal.returns
+returns g c =
+    let v = c.args.self.now in
+    let none = walk_begins v.profile (types_of (listed v.toc)) in
+    let short = v.short in
+    record { start = omega arith; few = omega arith; rows = λ sorted. c.begin_rows.ensures }
