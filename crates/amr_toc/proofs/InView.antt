@@ -1,7 +1,8 @@
 -- One frame of a view: its entry, its octets, its bits and its CRC.
-use Rattle.std.proofs.Common.{◌≡◌, ℕ, ◌+◌, ◌*◌, ◌/◌, ◌<◌, ◌≤◌, true, false, cond, nat_eq, List, length, take, get_or, ap, sym, subst, ◌∙◌, arith}
+use Rattle.std.proofs.Common.{◌≡◌, ℕ, ◌+◌, ◌*◌, ◌/◌, ◌<◌, ◌≤◌, Bool, true, false, cond, nat_eq, List, length, take, get_or, refl, ap, sym, subst, ◌∙◌, arith}
 use Rattle.std.specs.Prelude.{◌^◌, ◌-◌, ◌%◌, filter, is_some}
 use Rattle.std.proofs.lemmas.List.{length-map}
+use Rattle.std.proofs.lemmas.List.Sums.{length-filter, sum_by_more}
 use Rattle.amr_bits.specs.Bits.{bits_at, octets_for}
 use Rattle.amr_bits.specs.declared.slice.BitSlice.{BitSlice}
 use Rattle.amr_bits.specs.Runs.{run}
@@ -9,14 +10,14 @@ use Rattle.amr_frame.specs.Frames.{Frame}
 use Rattle.amr_frame.specs.Tables.{bits_in, octets_in}
 use Rattle.amr_guard.specs.Sorting.{IsOctet}
 use Rattle.payload_laws.proofs.Formats.{aligned_of}
-use Rattle.spec_payload.specs.Reading.{checks_at, entries, types}
+use Rattle.spec_payload.specs.Reading.{checks_at, checks_count, entries, types}
 use Rattle.amr_toc.specs.declared.entry.Entry.{Entry}
 use Rattle.amr_toc.specs.declared.view.PayloadView.{PayloadView}
 use Rattle.amr_toc.specs.Frames.{HasType, IsRun}
 use Rattle.amr_toc.specs.Lists.{listed, types_of}
 use Rattle.amr_toc.specs.Places.{octet_place, sizes_in}
 use Rattle.amr_toc.specs.Viewed.{checks_to, frame_in, said, standing, viewed}
-use Rattle.amr_toc.specs.Walks.{begins_at}
+use Rattle.amr_toc.specs.Walks.{begins_at, check_octet, checks_in}
 use Rattle.amr_toc.proofs.CheckPlaces.{check_place, check_stands, filled_type}
 use Rattle.amr_toc.proofs.Shown.{frame_is, in_entries, in_table, length_bits, size_of, types_are}
 use Rattle.amr_toc.proofs.Sizes.{listed_count, most_octets}
@@ -117,31 +118,33 @@ pub run_long : (view : PayloadView) (k ft n : ℕ) (lent : BitSlice) → IsRun v
     → n ≡ length (frame_in (said view) k).bits
 run_long view k ft n lent is long = sym long ∙ ap length is.bits
 
+-- the type that the table has for the frame
+type_listed : (view : PayloadView) (k ft : ℕ) → HasType view k ft → get_or (types_of (listed view.toc)) k 0 ≡ ft
+type_listed view k ft kind =
+    let p = view.profile in
+    let octets = view.octets.now in
+    ap (λ fts. get_or fts k 0) (types_are p octets (listed view.toc) view.table)
+    ∙ sym (kind.as_said ∙ ap (λ (f : Frame). f.ft) (frame_is p octets k (in_said view k kind.exists)))
+
 -- the next frame begins behind this one
 pub begins_behind : (view : PayloadView) (k ft place room : ℕ) → HasType view k ft → place ≡ begins_at view k
     → room ≡ room_in view.profile ft → place + room ≡ begins_at view (k + 1)
 begins_behind view k ft place room kind start size =
     let p = view.profile in
-    let octets = view.octets.now in
-    let es = listed view.toc in
-    let said_so = kind.as_said ∙ ap (λ (f : Frame). f.ft) (frame_is p octets k (in_said view k kind.exists)) in
-    let same : get_or (types_of es) k 0 ≡ ft = ap (λ fts. get_or fts k 0) (types_are p octets es view.table) ∙ sym
-    said_so in
-    let inside : k < length (types_of es) = subst (λ n. k < n) (sym (length-map es (λ (e : Entry). e.ft)))
+    let fts = types_of (listed view.toc) in
+    let inside : k < length fts = subst (λ n. k < n) (sym (length-map (listed view.toc) (λ (e : Entry). e.ft)))
     (in_listed view k kind.exists) in
-    let more = walk_goes_on p (types_of es) k inside in
-    let here = ap (room_in p) same in
+    let more = walk_goes_on p fts k inside in
+    let here = ap (room_in p) (type_listed view k ft kind) in
     omega arith
 
 -- the CRC of the frame, behind the header, the table and the CRCs before
-pub check_in : (view : PayloadView) (k header n before : ℕ) → k < length (viewed view).frames → view.profile.crc ≡ true
-    → 0 < length (frame_in (said view) k).bits
-    → header ≡ cond (is_some view.profile.interleaving) 2 1 → n ≡ length (listed view.toc)
-    → before ≡ length (filter (filled_type view.profile) (take k (types_of (listed view.toc))))
-    → (header + n + before < length view.octets.now)
-    × (get_or view.octets.now (header + n + before) 0 ≡ get_or (checks_at view.profile view.octets.now)
+pub check_in : (view : PayloadView) (k check : ℕ) → k < length (viewed view).frames → view.profile.crc ≡ true
+    → 0 < length (frame_in (said view) k).bits → check ≡ check_octet view k
+    → (check < length view.octets.now)
+    × (get_or view.octets.now check 0 ≡ get_or (checks_at view.profile view.octets.now)
     (checks_to (said view).frames k) 0)
-check_in view k header n before h crc some head count checks =
+check_in view k check h crc some is =
     let p = view.profile in
     let octets = view.octets.now in
     let aligned = (aligned_of p view.valid).crc crc in
@@ -149,6 +152,37 @@ check_in view k header n before h crc some head count checks =
     let there = check_stands p octets k aligned crc view.accepted inside
     (subst (λ m. 0 < m) (length_bits p octets k inside) some) in
     let listed_there = in_listed view k h in
-    let place = check_place p octets (listed view.toc) header n before k aligned view.table (omega arith) head count
-    checks in
+    let before = ap (λ b. cond b (length (filter (filled_type p) (take k (types_of (listed view.toc))))) 0) crc in
+    let place = is ∙ check_place p octets (listed view.toc) (cond (is_some p.interleaving) 2 1)
+    (length (listed view.toc)) (checks_count p (take k (types_of (listed view.toc)))) k aligned view.table (omega arith)
+    refl refl before in
     (subst (λ m. m < length octets) (sym place) there.0, ap (λ m. get_or octets m 0) place ∙ sym there.1)
+
+-- that of the first frame stands behind the table, and each later one behind those before
+no_checks : (b : Bool) → cond {A = ℕ} b 0 0 ≡ 0
+no_checks true = refl
+no_checks false = refl
+
+pub check_begins : (view : PayloadView) (first : ℕ)
+    → first ≡ cond (is_some view.profile.interleaving) 2 1 + length (listed view.toc) → first ≡ check_octet view 0
+check_begins view first is = let none = no_checks view.profile.crc in omega arith
+
+more_checks : (b : Bool) (n m c : ℕ) → n ≡ m + c → cond b n 0 ≡ cond b m 0 + cond b c 0
+more_checks true n m c e = e
+more_checks false n m c e = refl
+
+pub check_behind : (view : PayloadView) (k ft check more : ℕ) → HasType view k ft → check ≡ check_octet view k
+    → more ≡ checks_in view.profile ft → check + more ≡ check_octet view (k + 1)
+check_behind view k ft check more kind is add =
+    let p = view.profile in
+    let fts = types_of (listed view.toc) in
+    let q = filled_type p in
+    let inside : k < length fts = subst (λ n. k < n) (sym (length-map (listed view.toc) (λ (e : Entry). e.ft)))
+    (in_listed view k kind.exists) in
+    let here = ap (λ t. cond {A = ℕ} (q t) 1 0) (type_listed view k ft kind) in
+    let one = sum_by_more (λ (x : ℕ). cond {A = ℕ} (q x) 1 0) fts k 0 inside in
+    let now = length-filter q (take k fts) in
+    let then = length-filter q (take (k + 1) fts) in
+    let sums = more_checks p.crc (length (filter q (take (k + 1) fts))) (length (filter q (take k fts)))
+    (cond (q ft) 1 0) (omega arith) in
+    omega arith

@@ -61,12 +61,6 @@ pub record HasSorted (view : PayloadView) (sizes : List ℕ) (k o : ℕ) : Type 
   pub counts : sizes ≡ sizes_in view.profile (types_of (listed view.toc))
   pub exists : IsOctet sizes k o
 
--- frame k is there, and it has a CRC
-pub record HasCheck (view : PayloadView) (k : ℕ) : Type 0 where
-  pub frame : k < length (viewed view).frames
-  pub checks : view.profile.crc ≡ true
-  pub filled : 0 < length (frame_in (said view) k).bits
-
 -- a cell holds frame k as it is seen: with Q = 0 where it is damaged
 pub record ShowsFrame (view : PayloadView) (k : ℕ) (cell : Cell) : Type 0 where
   pub frame : held cell ≡ Some (frame_in (viewed view) k)

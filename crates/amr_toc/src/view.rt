@@ -6,7 +6,7 @@ ghost use Rattle.amr_frame.specs.Profiles.{IsValid};
 ghost use Rattle.amr_frame.specs.Tables.{bits_in, octets_in};
 ghost use Rattle.amr_toc.specs.Lists.{listed, toc_at, types_of};
 ghost use Rattle.amr_toc.specs.Places.{bits_to, body_bit};
-ghost use Rattle.spec_payload.specs.Reading.{checks_at, payload_refusal};
+ghost use Rattle.spec_payload.specs.Reading.{payload_refusal};
 ghost use Rattle.spec_payload.specs.Values.{IsValue};
 
 use crate::checks::check_over;
@@ -36,10 +36,10 @@ pub struct PayloadView<'a> {
 }
 
 impl<'a> PayloadView<'a> {
-    ghost use Rattle.amr_toc.specs.Frames.{HasCheck, HasGathered, HasSorted, HasType, InPlain, InSorted, IsEntry, IsGathered, IsLent, IsRun, ShowsFrame};
+    ghost use Rattle.amr_toc.specs.Frames.{HasGathered, HasSorted, HasType, InPlain, InSorted, IsEntry, IsGathered, IsLent, IsRun, ShowsFrame};
     ghost use Rattle.amr_toc.specs.Told.{Accepts, IsTableOf, Reads};
-    ghost use Rattle.amr_toc.specs.Viewed.{checks_to, format_of, frame_in, is_damaged, octets_of, said, standing, viewed};
-    ghost use Rattle.amr_toc.specs.Walks.{RowsAt, StandsAt, begins_at};
+    ghost use Rattle.amr_toc.specs.Viewed.{format_of, frame_in, is_damaged, octets_of, said, standing, viewed};
+    ghost use Rattle.amr_toc.specs.Walks.{RowsAt, StandsAt, begins_at, check_octet, checks_in};
 
     /// What a reader tells of a payload's octets: their view, where it read their table and they aren't
     /// refused, or why they are.
@@ -158,10 +158,11 @@ impl<'a> PayloadView<'a> {
         }
         let ft = self.entry(at).ft;
         if !self.profile.sorting {
-            return self.check_differs(at, ft, self.run_from(at, ft, self.start_of(at)));
+            let bits = self.run_from(at, ft, self.start_of(at));
+            return self.check_differs(at, ft, bits, self.check_place(at));
         }
         let gathered = self.gathered(at);
-        self.check_differs(at, ft, self.run_in(at, ft, &gathered))
+        self.check_differs(at, ft, self.run_in(at, ft, &gathered), self.check_place(at))
     }
 
     /// Octet `octet` of frame `at`. In an octet-aligned payload its fill bits are as they stand, in
@@ -217,6 +218,7 @@ impl<'a> PayloadView<'a> {
     {
         let mut walk = Walk {
             place: self.body,
+            check: header_octets(&self.profile) + self.toc.len(),
             rows: [0; ROWS],
         };
         if !self.profile.sorting {
@@ -227,7 +229,7 @@ impl<'a> PayloadView<'a> {
     }
 
     /// Frame `at`, as `frame` gives it, where the walk has passed the frames before, and then passes it too. It doesn't
-    /// look at the frames before, unless the format has CRCs.
+    /// look at the frames before.
     pub fn next_frame<const ROWS: usize>(&self, at: usize, walk: &mut Walk<ROWS>) -> Cell
         requires frame { at < length (viewed self.now).frames }
         requires stands { StandsAt self.now walk.old at }
@@ -237,18 +239,21 @@ impl<'a> PayloadView<'a> {
     {
         let entry = self.entry(at);
         let start = walk.place;
+        let check = walk.check;
         walk.place += self.room_of(entry.ft);
+        walk.check += self.checks_of(entry.ft);
         if !self.profile.sorting {
-            return self.seen_as(at, entry, self.run_from(at, entry.ft, start));
+            return self.seen_as(at, entry, self.run_from(at, entry.ft, start), check);
         }
-        self.next_sorted(at, entry, &mut walk.rows)
+        self.next_sorted(at, entry, check, &mut walk.rows)
     }
 
-    /// Frame `at` of a payload whose octets are sorted, which has this entry and before which the rows stand. Then they
-    /// stand behind it.
+    /// Frame `at` of a payload whose octets are sorted, which has this entry, whose CRC stands at octet `check`, and
+    /// before which the rows stand. Then they stand behind it.
     #[inline(never)]
-    fn next_sorted(&self, at: usize, entry: Entry, rows: &mut [u16]) -> Cell
+    fn next_sorted(&self, at: usize, entry: Entry, check: usize, rows: &mut [u16]) -> Cell
         requires entry { IsEntry self.now at entry }
+        requires check { check ≡ check_octet self.now at }
         requires sorted { self.now.profile.sorting ≡ true }
         requires rows { RowsAt self.now at rows.old }
         ensures frame { ShowsFrame self.now at result }
@@ -256,7 +261,20 @@ impl<'a> PayloadView<'a> {
     {
         let count = octets_of(self.profile.codec, entry.ft);
         let gathered = gather(self.octets, count, rows);
-        self.seen_as(at, entry, self.run_in(at, entry.ft, &gathered))
+        self.seen_as(at, entry, self.run_in(at, entry.ft, &gathered), check)
+    }
+
+    /// How many CRCs a frame of this type has.
+    fn checks_of(&self, ft: u8) -> usize
+        requires { ft ≤ 15 }
+        ensures checks { result ≡ checks_in self.now.profile ft }
+        ensures most { result ≤ 1 }
+    {
+        if self.profile.crc && bits_of(self.profile.codec, ft) > 0 {
+            1
+        } else {
+            0
+        }
     }
 
     /// How many bits of the body a frame of this type takes up.
@@ -281,25 +299,31 @@ impl<'a> PayloadView<'a> {
         ensures { ShowsFrame self.now at result }
     {
         if !self.profile.sorting {
-            return self.seen_as(at, entry, self.run_from(at, entry.ft, start));
+            let bits = self.run_from(at, entry.ft, start);
+            return self.seen_as(at, entry, bits, self.check_place(at));
         }
         let gathered = self.gathered(at);
-        self.seen_as(at, entry, self.run_in(at, entry.ft, &gathered))
+        let bits = self.run_in(at, entry.ft, &gathered);
+        self.seen_as(at, entry, bits, self.check_place(at))
     }
 
-    /// Frame `at`, which has this entry and these bits, with Q = 0 where it is damaged.
-    fn seen_as(&self, at: usize, entry: Entry, bits: BitSlice<'_>) -> Cell
-        requires { IsLent self.now at entry bits }
+    /// Frame `at`, which has this entry and these bits, and whose CRC stands at octet `check`, with Q = 0 where it is
+    /// damaged.
+    fn seen_as(&self, at: usize, entry: Entry, bits: BitSlice<'_>, check: usize) -> Cell
+        requires lent { IsLent self.now at entry bits }
+        requires check { check ≡ check_octet self.now at }
         ensures { ShowsFrame self.now at result }
     {
-        let damaged = self.check_differs(at, entry.ft, bits);
+        let damaged = self.check_differs(at, entry.ft, bits, check);
         let q = entry.q && !damaged;
         Cell::from_bits(self.profile.codec, entry.ft, q, bits)
     }
 
-    /// Whether frame `at`, which has this type and these bits, has a CRC, and it isn't the frame's.
-    fn check_differs(&self, at: usize, ft: u8, bits: BitSlice<'_>) -> bool
-        requires { IsRun self.now at ft bits }
+    /// Whether frame `at`, which has this type and these bits, has a CRC, which stands at octet `check`, and it isn't the
+    /// frame's.
+    fn check_differs(&self, at: usize, ft: u8, bits: BitSlice<'_>, check: usize) -> bool
+        requires run { IsRun self.now at ft bits }
+        requires check { check ≡ check_octet self.now at }
         ensures { result ≡ is_damaged self.now at }
     {
         if !self.profile.crc {
@@ -308,18 +332,19 @@ impl<'a> PayloadView<'a> {
         if bits.len() == 0 {
             return false;
         }
-        self.check_sent(at) != check_over(self.profile.codec, ft, bits)
+        self.octets[check] != check_over(self.profile.codec, ft, bits)
     }
 
-    /// The CRC that came for frame `at` (RFC 4867, 4.4.2.1).
-    fn check_sent(&self, at: usize) -> u8
-        requires { HasCheck self.now at }
-        ensures { result ≡ slice_index (checks_at self.now.profile self.now.octets.now)
-            (checks_to (said self.now).frames at) }
+    /// The octet where the CRC of frame `at` stands, if it has one (RFC 4867, 4.4.2.1).
+    fn check_place(&self, at: usize) -> usize
+        requires { at < length (viewed self.now).frames }
+        ensures { result ≡ check_octet self.now at }
     {
-        self.octets[header_octets(&self.profile)
-            + self.toc.len()
-            + filled_before(&self.profile, &self.toc, at)]
+        let first = header_octets(&self.profile) + self.toc.len();
+        if !self.profile.crc {
+            return first;
+        }
+        first + filled_before(&self.profile, &self.toc, at)
     }
 
     /// The bits of frame `at` in a payload whose octets aren't sorted.

@@ -14,6 +14,8 @@ use amr_frame::{Profile, octets_of};
 pub struct Walk<const ROWS: usize> {
     /// The first bit of the next frame, where the octets aren't sorted.
     pub(crate) place: usize,
+    /// The octet where the next CRC stands, if the format has them.
+    pub(crate) check: usize,
     /// The octet of the payload that has the next octet with each number.
     pub(crate) rows: [u16; ROWS],
 }
