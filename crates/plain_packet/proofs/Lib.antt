@@ -1,0 +1,10 @@
+mod Cutting
+mod Fields
+mod Framing
+mod Fronts
+mod Heads
+mod Payloads
+mod Headers
+mod Loading
+mod Masking
+mod Hearing
