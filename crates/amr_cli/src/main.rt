@@ -6,15 +6,27 @@
 mod answer_tests;
 #[cfg(test)]
 mod convert_tests;
+#[cfg(test)]
+mod cut_tests;
 mod engine;
+#[cfg(test)]
+mod fault_runs;
 #[cfg(test)]
 mod fault_tests;
 #[cfg(test)]
 mod format_tests;
 mod host;
+#[cfg(test)]
+mod host_tests;
 mod job;
 #[cfg(test)]
 mod list_tests;
+#[cfg(test)]
+mod long_tests;
+#[cfg(test)]
+mod offer_cut_tests;
+#[cfg(test)]
+mod order_tests;
 mod run;
 mod status;
 #[cfg(test)]
